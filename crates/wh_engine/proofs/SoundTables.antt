@@ -1,23 +1,28 @@
 -- The tables of commands are sound, and a check of them says so.
-use Rattle.std.proofs.Common.{◌≡◌, List, map, Option, Some, Result, Ok, Err, refl, ap}
+use Rattle.std.proofs.Common.{◌≡◌, Bool, true, false, List, [], map, Option, Some, Result, Ok, Err, refl, sym, ap, subst, ◌∙◌}
+use Rattle.std.specs.Prelude.{if◌then◌else◌}
 use Rattle.std.specs.FinMap.{FinMap, entries, values, get}
 use Rattle.std.proofs.lemmas.List.Sorted.{IsPermutation-refl}
 use Rattle.sqlite.specs.State.{State}
+use Rattle.wh_policy.specs.declared.format.Format.{Format}
+use Rattle.wh_policy.specs.declared.format.Format.TheVariants.{One, Two}
 use Rattle.wh_history.specs.Accepted.{Accepted}
 use Rattle.wh_history.specs.Tables.{Limits}
 use Rattle.wh_rows.specs.AtRest.{IsAtRest, Leaves}
-use Rattle.wh_model.specs.Defined.{AreOf}
+use Rattle.wh_model.specs.Defined.{AreOf, fact_in, void_at}
 use Rattle.wh_rows.specs.Holds.{Layout}
-use Rattle.wh_rows.specs.Raw.{stored_of, IsTyped, AreTyped}
+use Rattle.wh_rows.specs.Names.{is_there}
+use Rattle.wh_rows.specs.Raw.{Stored, stored_of, IsTyped, AreTyped, RestsOn}
 use Rattle.wh_rows.specs.Rows as row
 use Rattle.wh_rows.specs.Tables.{Tables}
 use Rattle.wh_rows.specs.declared.table.Table.{Table}
 use Rattle.wh_rows.specs.declared.table.Table.TheVariants.{Meta, Command, Member, Change, Product, Store, Customer, Profile, Calendar, Fact, Fact2, Void}
-use Rattle.wh_rows.proofs.RawTables.{stores_typed}
+use Rattle.wh_rows.proofs.RawTables.{rests_on, stores_typed}
+use Rattle.wh_store.proofs.Absent.{none_there}
 use Rattle.wh_sql.specs.declared.fault.ReadFault.{ReadFault}
 use Rattle.wh_sql.specs.declared.fault.ReadFault.TheVariants as reading
 use Rattle.wh_admission.specs.Admission.{AreAdmitted}
-use Rattle.wh_admission.specs.Checked.{AreRowsAt, IsDefined, IsSoundStored}
+use Rattle.wh_admission.specs.Checked.{AreRowsAt, Covers, IsDefined, IsSoundStored, stored_in}
 use Rattle.wh_check.specs.Judged.{IsJudged}
 use Rattle.wh_check.specs.declared.verdict.Verdict.{Verdict}
 use Rattle.wh_check.specs.declared.verdict.Verdict.TheVariants.{Clean, Wrong}
@@ -54,30 +59,77 @@ module _ (limits : Limits) (commands : List Accepted) (t : Tables) (are : AreOf 
   pub sound_stored : AreAdmitted limits commands → IsSoundStored (stored_of t)
   sound_stored admitted = record { limits = limits; commands = commands; admitted = admitted; formatted = are.format; each = each_defined }
 
+-- ---- in the tables of a format
+
+-- of a table that the format hasn't, nothing is stored
+module _ (stored : Stored) (s : State) (at : RestsOn stored s) where
+  same_rows : (name : Table) → stored.rows name ≡ (stored_in stored.format stored).rows name
+  same_rows name = go (is_there name stored.format) refl
+    where
+      shown : Bool → Type 0
+      shown b = stored.rows name ≡ (if b then stored.rows name else [])
+
+      go : (b : Bool) → is_there name stored.format ≡ b → shown (is_there name stored.format)
+      go true is = subst shown (sym is) refl
+      go false is = subst shown (sym is) (none_there name s stored at is)
+
+  in_format : (limits : Limits) (commands : List Accepted) (table : Table) → IsDefined limits commands stored table → IsDefined limits commands (stored_in stored.format stored) table
+  in_format limits commands Meta defined = defined
+  in_format limits commands Command defined = defined
+  in_format limits commands Member defined = defined
+  in_format limits commands Change defined = defined
+  in_format limits commands Product defined = defined
+  in_format limits commands Store defined = defined
+  in_format limits commands Customer defined = defined
+  in_format limits commands Profile defined = defined
+  in_format limits commands Calendar defined = defined
+  in_format limits commands Fact defined = defined
+  in_format limits commands Fact2 defined = subst (AreRowsAt row.fact2 (fact_in Two commands)) (same_rows Fact2) defined
+  in_format limits commands Void defined = subst (AreRowsAt row.void (void_at commands)) (same_rows Void) defined
+
+  -- so what is sound is sound by the tables of its format
+  sound_in_format : IsSoundStored stored → IsSoundStored (stored_in stored.format stored)
+  sound_in_format it = record { limits = it.limits; commands = it.commands; admitted = it.admitted; formatted = it.formatted; each = λ table. in_format it.limits it.commands table (it.each table) }
+
+covers_itself : (has said : Format) → has ≡ said → Covers has said
+covers_itself has One same = tt
+covers_itself has Two same = same
+
 -- ---- a check that was answered, or refused
 
 module _ (limits : Limits) (commands : List Accepted) (session : Session) (old new : State) (ready : IsReady limits commands session old) where
   abbrev tables : Tables
   tables = ready.rests.tables
 
-  is_sound : IsSoundStored (stored_of tables)
-  is_sound = sound_stored limits commands tables ready.rests.are (stores_typed old.now tables ready.rests.rests.now.tables) ready.admitted
+  abbrev held : Stored
+  held = stored_in tables.format (stored_of tables)
+
+  same : tables.format ≡ session.format
+  same = ready.rests.are.format ∙ sym (ap (λ (s : Session). s.format) ready.session_is)
+
+  pub covers : Covers tables.format session.format
+  covers = covers_itself tables.format session.format same
+
+  is_sound : IsSoundStored held
+  is_sound =
+      let sound = sound_stored limits commands tables ready.rests.are (stores_typed old.now tables ready.rests.rests.now.tables) ready.admitted in
+      sound_in_format (stored_of tables) old (rests_on tables old ready.rests.rests) sound
 
   -- a verdict is that all is clean, and no table is named as damaged
-  clean_is : (verdict : Verdict) → IsJudged (stored_of tables) (Ok verdict) → verdict ≡ Clean
+  clean_is : (verdict : Verdict) → IsJudged held (Ok verdict) → verdict ≡ Clean
   clean_is Clean judged = refl
-  clean_is (Wrong table) judged = absurd (other (verdicts_are_one (stored_of tables) (Ok (Wrong table)) (Ok Clean) tt tt judged is_sound))
+  clean_is (Wrong table) judged = absurd (other (verdicts_are_one held (Ok (Wrong table)) (Ok Clean) tt tt judged is_sound))
     where
       other : ◌≡◌ {A = Result Verdict ReadFault} (Ok (Wrong table)) (Ok Clean) → ⊥
       other h = cc
 
-  not_damaged : (table : Table) → IsJudged (stored_of tables) (Err (reading.Damaged table)) → ⊥
-  not_damaged table judged = other (verdicts_are_one (stored_of tables) (Err (reading.Damaged table)) (Ok Clean) tt tt judged is_sound)
+  not_damaged : (table : Table) → IsJudged held (Err (reading.Damaged table)) → ⊥
+  not_damaged table judged = other (verdicts_are_one held (Err (reading.Damaged table)) (Ok Clean) tt tt judged is_sound)
     where
       other : ◌≡◌ {A = Result Verdict ReadFault} (Err (reading.Damaged table)) (Ok Clean) → ⊥
       other h = cc
 
-  is_due : (result : Result Verdict Fault) → IsChecked (stored_of tables) result → Outcome (λ told. told ≡ Ok Clean) commands commands result anywhere
+  is_due : (result : Result Verdict Fault) → IsChecked held result → Outcome (λ told. told ≡ Ok Clean) commands commands result anywhere
   is_due (Ok verdict) judged = (ap Ok (clean_is verdict judged), tt)
   is_due (Err faults.Memory) judged = tt
   is_due (Err (faults.Store cause)) judged = tt
@@ -85,6 +137,6 @@ module _ (limits : Limits) (commands : List Accepted) (session : Session) (old n
   is_due (Err (faults.Damaged table)) judged = not_damaged table judged
   is_due (Err faults.Reopen) judged = judged
 
-  pub checked : (result : Result Verdict Fault) → IsChecked (stored_of tables) result → (IsServed result → IsAtRest (Some tables) new) → Leaves (Some tables) new
+  pub checked : (result : Result Verdict Fault) → IsChecked (stored_in session.format (stored_of tables)) result → (IsServed result → IsAtRest (Some tables) new) → Leaves (Some tables) new
       → IsCheckedOf limits commands result (record session { must_reopen = stops result }) new
-  checked result judged rests left = read_and_noted limits commands session old new ready (λ told. told ≡ Ok Clean) left result (is_due result judged) rests
+  checked result judged rests left = read_and_noted limits commands session old new ready (λ told. told ≡ Ok Clean) left result (is_due result (subst (λ format. IsChecked (stored_in format (stored_of tables)) result) (sym same) judged)) rests

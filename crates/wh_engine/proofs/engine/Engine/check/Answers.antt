@@ -1,9 +1,7 @@
-use Rattle.std.proofs.Common.{sym, ap, ◌∙◌}
 use Rattle.sqlite.specs.Held.{state}
 use Rattle.wh_rows.specs.Raw.{stored_of}
 use Rattle.wh_rows.proofs.RawTables.{rests_on}
-use Rattle.wh_engine.specs.declared.session.Session.{Session}
-use Rattle.wh_engine.proofs.SoundTables.{checked}
+use Rattle.wh_engine.proofs.SoundTables.{checked, covers}
 use Rattle.wh_engine.proofs.Scanning.{read, shut}
 use Rattle.wh_engine.proofs.engine.Engine.check.Goals as goal
 
@@ -19,6 +17,5 @@ returns-clause-sound g c clean limits commands ready =
     let new = state g.S.Store c.check_tables-verdict.new.tables.conn in
     let t = ready.rests.tables in
     let rests = ready.rests.rests in
-    let same = ready.rests.are.format ∙ sym (ap (λ (s : Session). s.format) ready.session_is) in
     rw c.stops-self.ensures (checked limits commands c.args.self.now.session old new ready c.check_tables-verdict.result
-    (c.check_tables-verdict.ensures.checked clean (stored_of t) (rests_on t old rests) same) (c.check_tables-verdict.ensures.reads.spares.same clean t rests) (c.check_tables-verdict.ensures.reads.spares.left clean t rests))
+    (c.check_tables-verdict.ensures.checked clean (stored_of t) (rests_on t old rests) (covers limits commands c.args.self.now.session old new ready)) (c.check_tables-verdict.ensures.reads.spares.same clean t rests) (c.check_tables-verdict.ensures.reads.spares.left clean t rests))
