@@ -13,6 +13,7 @@ pub mod Counted
 pub mod Entries
 pub mod KeyedSums
 pub mod Lines
+pub mod AddedLines
 pub mod Prefixes
 pub mod Reports
 pub mod Worked

@@ -45,7 +45,7 @@ lookup_by_text bs (e ∷ es) = ap (λ o. cond (is_eq (by_bytes bs (string_bytes 
 pub same_label : (x y : List ℕ) → by_bytes x y ≡ Equal → x ≡ y
 same_label x y e = (bytes_eq-Decides x y).0 (sym (is_eq-slice_cmp x y) ∙ ap is_eq e)
 
-differ_if_less : (x y : List ℕ) → by_bytes x y ≡ Less → bytes_eq x y ≡ false
+pub differ_if_less : (x y : List ℕ) → by_bytes x y ≡ Less → bytes_eq x y ≡ false
 differ_if_less x y e = sym (is_eq-slice_cmp x y) ∙ ap is_eq e
 
 differ_if_greater : (x y : List ℕ) → by_bytes x y ≡ Greater → bytes_eq x y ≡ false

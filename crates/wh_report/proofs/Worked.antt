@@ -1,5 +1,5 @@
 -- The definitions on literals whose answers are known from elsewhere: each lemma computes.
-use Rattle.std.proofs.Common.{◌≡◌, ℕ, ℤ, pos, negsuc, true, false, List, [], ◌∷◌, ◌++◌, Some, None, Ok, Err, refl}
+use Rattle.std.proofs.Common.{◌≡◌, ℕ, ℤ, pos, negsuc, true, false, List, [], ◌∷◌, ◌++◌, length, Some, None, Ok, Err, refl}
 use Rattle.std.specs.Prelude.{codes}
 use Rattle.std.specs.Fmt.{digits}
 use Rattle.wh_policy.specs.declared.attribute.AttributeType.TheVariants.{RetainOriginal, Overwrite, NewRow, NewAttribute, MiniDimensionOutrigger, NewRowAndOverwrite, DualKeys}
@@ -7,9 +7,11 @@ use Rattle.wh_policy.specs.declared.attribute.Dim.TheVariants.{Product, Customer
 use Rattle.wh_policy.specs.declared.policy.Policy.{Policy}
 use Rattle.wh_policy.specs.Policy.{described}
 use Rattle.wh_policy.proofs.OnLiterals.{policy_on_literals}
+use Rattle.wh_report.specs.Laws.{over_lines}
 use Rattle.wh_report.specs.Request.{asked, is_asked_of}
 use Rattle.wh_report.specs.Subject.{subject_in}
 use Rattle.wh_report.specs.Summary.{Sold, summed}
+use Rattle.wh_report.specs.Sums.{margin}
 use Rattle.wh_report.specs.Text.{aligned, hundredths, money, line_text, summed_text, heading, report_text}
 use Rattle.wh_report.specs.Words.{mode_of_word}
 use Rattle.wh_report.specs.declared.mode.Mode.TheVariants.{Was, Is, Prior}
@@ -121,6 +123,23 @@ by_age_band : report_text (codes "customer.age_band") (codes "was") (codes "2023
     ++ codes "       3          4          17.50          11.80           5.70  total\n"
 unfolding report_text heading summed summed_text line_text money hundredths aligned digits
 by_age_band = refl
+
+-- the two lines of the first report add up to its total
+
+abbrev by_age : List Sold
+by_age = sale (codes "(no card)") (pos 1) (pos 250) (pos 160) ∷ sale (codes "30-39") (pos 1) (pos 1000) (pos 700) ∷ sale (codes "(no card)") (pos 2) (pos 500) (pos 320) ∷ []
+
+two_lines : length (summed by_age).lines ≡ 2
+unfolding summed
+two_lines = refl
+
+amounts_together : over_lines (λ t. t.amount) (summed by_age).lines ≡ pos 1750
+unfolding summed
+amounts_together = refl
+
+margins_together : over_lines margin (summed by_age).lines ≡ pos 570
+unfolding summed
+margins_together = refl
 
 by_category_as_it_was : report_text (codes "product.category") (codes "was") (codes "2023-01-01") (codes "2026-12-31")
     (sale (codes "Drinks") (pos 1) (pos 250) (pos 160) ∷ sale (codes "Drinks") (pos 2) (pos 500) (pos 320) ∷ sale (codes "Drinks") (pos 1) (pos 1000) (pos 700) ∷ sale (codes "Drinks") (pos 1) (pos 250) (pos 160) ∷ [])

@@ -1,5 +1,5 @@
 -- What holds of every report.
-use Rattle.std.specs.Prelude.{◌≡◌, ℕ, List, [], ◌∷◌, ◌++◌, map, filter, filter_map, codes, Some, None, IsSome, Contains}
+use Rattle.std.specs.Prelude.{◌≡◌, ℕ, ℤ, pos, ◌+ℤ◌, List, [], ◌∷◌, ◌++◌, map, filter, filter_map, sum_by, codes, Some, None, IsSome, Contains}
 use Rattle.std.specs.List.{AllByRecursion}
 use Rattle.std.specs.declared.cmp.Ordering.TheVariants.{Less}
 use Rattle.wh_policy.specs.Written.{IsSound}
@@ -19,8 +19,8 @@ use Rattle.wh_report.specs.Label.{label, labelled, sold_as_asked, report}
 use Rattle.wh_report.specs.Labels.{LabelRows, labels_in, first_text, text_of, AreLabels}
 use Rattle.wh_report.specs.Request.{is_asked_of}
 use Rattle.wh_report.specs.Subject.{subject_in, reading_of}
-use Rattle.wh_report.specs.Sums.{Measured}
-use Rattle.wh_report.specs.Summary.{Sold, by_bytes, totals}
+use Rattle.wh_report.specs.Sums.{Measured, Figures, margin}
+use Rattle.wh_report.specs.Summary.{Sold, Summed, by_bytes, totals, summed}
 use Rattle.wh_report.specs.Text.{line_text}
 use Rattle.wh_report.specs.declared.mode.Mode.{Mode}
 use Rattle.wh_report.specs.declared.subject.Reading.{Reading}
@@ -55,6 +55,23 @@ measures_in commands r = map (λ s. record { quantity = s.quantity; amount = s.a
 -- A report ends with the line that those come to: it is the same for every subject and reading.
 abbrev pub TotalsAgree : Type 0
 TotalsAgree = (commands : List Accepted) (subject : Subject) (which : Reading) (r : Asked) → EndsWith (report commands subject which r) (total_line (measures_in commands r))
+
+-- a figure of all lines together
+abbrev pub over_lines : (Figures → ℤ) → List (List ℕ × Figures) → ℤ
+over_lines figure [] = pos 0
+over_lines figure (l ∷ lines) = figure l.1 +ℤ over_lines figure lines
+
+-- the lines add up to the total, figure by figure
+pub record AddUp (s : Summed) : Type 0 where
+  pub lines : sum_by (λ l. l.1.lines) s.lines ≡ s.total.lines
+  pub quantity : over_lines (λ t. t.quantity) s.lines ≡ s.total.quantity
+  pub amount : over_lines (λ t. t.amount) s.lines ≡ s.total.amount
+  pub cost : over_lines (λ t. t.cost) s.lines ≡ s.total.cost
+  pub margin : over_lines margin s.lines ≡ margin s.total
+
+-- The lines of a report add up to its total, whatever the sales and their labels.
+abbrev pub LinesAddUp : Type 0
+LinesAddUp = (sales : List Sold) → AddUp (summed sales)
 
 -- the words name this subject under the policy in force, a sound one, and what the mode shows of it is this reading
 pub record Reads (commands : List Accepted) (words : List ℕ) (mode : Mode) (subject : Subject) (which : Reading) : Type 0 where

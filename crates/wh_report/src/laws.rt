@@ -4,12 +4,18 @@ ghost use Rattle.std.specs.Prelude.{◌≡◌, ℕ, List, bytes_eq};
 ghost use Rattle.std.specs.List.{list_any};
 ghost use Rattle.std.specs.List.Sorted.{IsPermutation};
 ghost use Rattle.wh_report.specs.Summary.{Sold, labels, summed};
-ghost use Rattle.wh_report.specs.Laws.{Rise, TotalsAgree, LabelsByKeys, FactsAreCounted, AdmittedSalesAreDated, VoidsTakeTheirSales};
+ghost use Rattle.wh_report.specs.Laws.{Rise, TotalsAgree, LinesAddUp, LabelsByKeys, FactsAreCounted, AdmittedSalesAreDated, VoidsTakeTheirSales};
 
 /// Over one range the line of the total is the same for every attribute and mode: it is made from the measures of the
 /// range's sales alone.
 pub fn total()
     ensures { TotalsAgree }
+{}
+
+/// The lines of a report add up to its total: how many lines, quantity, amount, cost and margin are additive facts, by whatever
+/// attribute they are summed (Kimball & Ross, chapter 3).
+pub fn lines_add_up()
+    ensures { LinesAddUp }
 {}
 
 /// The labels of a report are those that a sale has, each once, in order of their bytes.

@@ -1,0 +1,5 @@
+use Rattle.wh_report.proofs.AddedLines.{lines_add_up}
+use Rattle.wh_report.proofs.laws.lines_add_up.Goals as goal
+
+pub returns : goal.returns
+returns c = lines_add_up
