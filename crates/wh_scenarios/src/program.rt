@@ -6,6 +6,7 @@ pub mod checks;
 pub mod deliveries;
 pub mod dumps;
 pub mod explained;
+pub mod explained_faults;
 pub mod lists;
 pub mod refused_reports;
 pub mod reports;

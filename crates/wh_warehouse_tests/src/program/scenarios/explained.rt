@@ -3,7 +3,7 @@
 use crate::program::ProgramDriver;
 use std::test::Fail;
 use wh_scenarios::check;
-use wh_scenarios::program::explained;
+use wh_scenarios::program::{explained, explained_faults};
 
 #[test]
 fn wanted(rt: HostRuntime) -> Result<(), Fail> {
@@ -27,15 +27,15 @@ fn headers(rt: HostRuntime) -> Result<(), Fail> {
 
 #[test]
 fn records(rt: HostRuntime) -> Result<(), Fail> {
-    check::<ProgramDriver>(rt.alloc(), &[explained::RECORDS])
+    check::<ProgramDriver>(rt.alloc(), &[explained_faults::RECORDS])
 }
 
 #[test]
 fn sales(rt: HostRuntime) -> Result<(), Fail> {
-    check::<ProgramDriver>(rt.alloc(), &[explained::SALES])
+    check::<ProgramDriver>(rt.alloc(), &[explained_faults::SALES])
 }
 
 #[test]
 fn policies(rt: HostRuntime) -> Result<(), Fail> {
-    check::<ProgramDriver>(rt.alloc(), &[explained::POLICIES])
+    check::<ProgramDriver>(rt.alloc(), &[explained_faults::POLICIES])
 }
