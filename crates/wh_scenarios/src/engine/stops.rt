@@ -124,10 +124,10 @@ check
 = clean
 ";
 
-/// The same night with an upgrade before the migration.
+/// The same night with an upgrade before the migration, where the log's disk stops.
 pub const UPGRADED_NIGHT: &str = "\
 files
-stops either night bands-of-rows p1 p2 s1 p3 s2 c1 u1 m1 p1
+stops log night bands-of-rows p1 p2 s1 p3 s2 c1 u1 m1 p1
 = as acknowledged, or with the next
 init bands-of-rows
 = made
@@ -157,6 +157,13 @@ table fact2
 = T2,1,20240610,1,5,1,1,2,1,2,1,1000,700,0
 check
 = clean
+";
+
+/// The same where the disk of the database file stops.
+pub const UPGRADED_NIGHT_OF_THE_DATABASE: &str = "\
+files
+stops database night bands-of-rows p1 p2 s1 p3 s2 c1 u1 m1 p1
+= as acknowledged, or with the next
 ";
 
 /// Files that stop, and stop once more in what is done again after the crash: a making, and a delivery.

@@ -47,6 +47,11 @@ fn upgraded_night(rt: HostRuntime) -> Result<(), Fail> {
 }
 
 #[test]
+fn upgraded_night_of_the_database(rt: HostRuntime) -> Result<(), Fail> {
+    wh_scenarios::check::<EngineDriver>(rt.alloc(), &[stops::UPGRADED_NIGHT_OF_THE_DATABASE])
+}
+
+#[test]
 fn making_again(rt: HostRuntime) -> Result<(), Fail> {
     wh_scenarios::check::<EngineDriver>(rt.alloc(), &[stops::MAKING_AGAIN])
 }
