@@ -1,4 +1,4 @@
-"""What the rules of docs/ say of the rows that a file stores, whoever wrote them, in either format: which are of their types, and what the words over the
+"""What the rules of docs/ say of any rows that a file stores, in either format: which are of their types, and what the words over the
 file then print. Rows are by their tables; those of the second format may be there or not."""
 
 import datetime

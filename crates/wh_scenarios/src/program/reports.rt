@@ -748,7 +748,7 @@ run status w
 = members product 2 store 1 customer 2
 = status 0
 
-# The calendar has a line a day of four years, and the columns' names. Of two days.
+# The calendar has a line for each day of four years, below the columns' names. Of two days.
 lines dump w calendar
 = 1462 lines
 = status 0
