@@ -47,7 +47,8 @@ distinct_twice (n ∷ ns) =
     let other = λ (m : List ℕ). not (bytes_eq n m) in
     rw (rest, itself) (ap (λ ms. n ∷ ms) (filter_twice other (distinct bytes_eq ns)))
 
-at_place-map : {X Y : Type 0} (f : X → Y) (n : ℕ) (xs : List X) (x : X) → at_place n xs ≡ Some x → at_place n (map f xs) ≡ Some (f x)
+-- what stands at a place stands there in a list of what is made of each
+pub at_place-map : {X Y : Type 0} (f : X → Y) (n : ℕ) (xs : List X) (x : X) → at_place n xs ≡ Some x → at_place n (map f xs) ≡ Some (f x)
 at_place-map f zero xs x is = cc
 at_place-map f (suc zero) [] x is = cc
 at_place-map f (suc zero) (y ∷ ys) x is = let here : y ≡ x = cc in ap (λ z. Some (f z)) here

@@ -204,7 +204,9 @@ fn is_natural(dim: Dim, surrogate: u64, text: &str) -> bool
 {
     match dim {
         Dim::Product | Dim::Store => is_key(KEY_LIMIT, text.as_bytes()),
-        Dim::Customer => { is_key(KEY_LIMIT, text.as_bytes()) || surrogate == 0 && text == "(no card)" }
+        Dim::Customer => {
+            is_key(KEY_LIMIT, text.as_bytes()) || surrogate == 0 && text == "(no card)"
+        }
     }
 }
 
