@@ -9,7 +9,7 @@ use Rattle.wh_batch.specs.Kind.{command_word}
 use Rattle.wh_history.specs.Accepted.{Accepted, Content, sold, sold_by, standing, withdrawn_by, format_of}
 use Rattle.wh_history.specs.Keys.{place, after_one, at_place}
 use Rattle.wh_history.specs.Tables.{Limits}
-use Rattle.wh_history.proofs.Basics.{some_is, both_true, find_passes}
+use Rattle.wh_history.proofs.Basics.{some_is, both_true, find_passes, first_or}
 use Rattle.wh_model.specs.Sound.{changes_kept}
 use Rattle.wh_rows.specs.Types.{is_key}
 use Rattle.wh_admission.specs.Admission.{upgrades_again, bytes_kept, content_of, current_policy, receipt_of, changes_in, first_number, first_line_there, first_line_missing, number_past_lines, number_past_voids, number_for, answer_with, when_read, already as told_already, by_id, answer}
@@ -19,7 +19,6 @@ use Rattle.wh_admission.specs.declared.command.Reply.{Reply}
 use Rattle.wh_admission.specs.declared.command.Refused.{Refused}
 use Rattle.wh_admission.specs.declared.command.Refused.TheVariants.{BadId, Reused, Upgraded, Full}
 use Rattle.wh_admission.specs.declared.command.Limit.TheVariants.{Commands, Changes, Facts}
-use Rattle.wh_admission.proofs.Repeats.{first_or}
 use Rattle.wh_admission.proofs.StaysAccepted.{none_first_passes}
 
 -- ---- the command of an id
@@ -27,7 +26,8 @@ use Rattle.wh_admission.proofs.StaysAccepted.{none_first_passes}
 abbrev ids : List Accepted → List (List ℕ)
 ids commands = map (λ (a : Accepted). a.id) commands
 
-abbrev has_id : List ℕ → Accepted → Bool
+-- a command has this id
+abbrev pub has_id : List ℕ → Accepted → Bool
 has_id id a = bytes_eq a.id id
 
 one_more : (n : ℕ) (b a : Accepted) (commands : List Accepted) → at_place n commands ≡ Some a → at_place (after_one n) (b ∷ commands) ≡ Some a
@@ -67,7 +67,8 @@ there_found id (suc (suc n)) (b ∷ commands) a once is own =
     let rest = there_found id (suc n) commands a once.1 is own in
     record { found = rw other rest.found; placed = rw other (ap after_one rest.placed) }
 
-none_has : (id : List ℕ) (commands : List Accepted) → find (has_id id) commands ≡ None → AllByRecursion (λ a. a.id ≢ id) commands
+-- where none is found under an id, none has it
+pub none_has : (id : List ℕ) (commands : List Accepted) → find (has_id id) commands ≡ None → AllByRecursion (λ a. a.id ≢ id) commands
 none_has id [] none = tt
 none_has id (b ∷ commands) none =
     elim (bytes_eq b.id id) as (λ v. (bytes_eq b.id id ≡ v) → first_or v b (find (has_id id) commands) ≡ None → AllByRecursion (λ a. a.id ≢ id) (b ∷ commands)) [
@@ -75,7 +76,8 @@ none_has id (b ∷ commands) none =
       | false ↦ λ other rest. (λ same. let yes = (bytes_eq-Decides b.id id).1 same in cc, none_has id commands rest)
     ] refl none
 
-none_found : (id : List ℕ) (commands : List Accepted) → AllByRecursion (λ a. a.id ≢ id) commands → find (has_id id) commands ≡ None
+-- and where none has it, none is found
+pub none_found : (id : List ℕ) (commands : List Accepted) → AllByRecursion (λ a. a.id ≢ id) commands → find (has_id id) commands ≡ None
 none_found id [] others = refl
 none_found id (b ∷ commands) others =
     elim (bytes_eq b.id id) as (λ v. (bytes_eq b.id id ≡ v) → first_or v b (find (has_id id) commands) ≡ None) [

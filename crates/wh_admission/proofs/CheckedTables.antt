@@ -99,7 +99,8 @@ kind_again Upgrade = refl
 pub same_kind : (kind other : CommandKind) → command_word kind ≡ command_word other → kind ≡ other
 same_kind kind other is = some_is kind other (sym (kind_again kind) ∙ ap command_kind_of is ∙ kind_again other)
 
-ok_is : (x y : Content) → ◌≡◌ {A = Result Content Refused} (Ok x) (Ok y) → x ≡ y
+-- what is read as two contents is read as one
+pub ok_is : (x y : Content) → ◌≡◌ {A = Result Content Refused} (Ok x) (Ok y) → x ≡ y
 ok_is x y h = cc
 
 policy_is : (x y : Policy) → ◌≡◌ {A = Result Policy PolicyFault} (Ok x) (Ok y) → x ≡ y

@@ -1,6 +1,6 @@
 -- The rows that the command table has of accepted commands, and the kinds that their words name.
 use Rattle.std.proofs.Common.{◌≡◌, ℕ, suc, ◌-◌, Bool, true, false, cond, List, [], ◌∷◌, ◌++◌, length, take, Option, Some, None, refl, sym, ap, subst, ◌∙◌, arith}
-use Rattle.std.specs.Prelude.{bytes_eq, codes, option_map, slice_get}
+use Rattle.std.specs.Prelude.{bytes_eq, codes, option_map}
 use Rattle.std.proofs.lemmas.Slice.Eq.{bytes_eq-Decides}
 use Rattle.wh_policy.specs.Words.{word_of, dim_of_word}
 use Rattle.wh_policy.specs.declared.attribute.Dim.{Dim}
@@ -12,18 +12,13 @@ use Rattle.wh_batch.specs.declared.kind.CommandKind.{CommandKind}
 use Rattle.wh_history.specs.Accepted.{Accepted, Content, Governs, Describes, Sells, Upgrades, Withdraws, records_by, members_after, placeholders_by}
 use Rattle.wh_history.specs.Tables as history
 use Rattle.wh_history.proofs.Basics.{some_is}
+use Rattle.wh_history.proofs.Trials.{get_middle}
+use Rattle.wh_history.proofs.Lists.{take_front}
 use Rattle.wh_model.specs.Defined.{command_at}
 use Rattle.wh_rows.specs.declared.rows.CommandRow.{CommandRow}
+use Rattle.wh_model.proofs.GrownCommands.{row_with, placed}
 
 -- ---- the row of a command
-
-get_middle : {X : Type 0} (xs : List X) (x : X) (ys : List X) → slice_get (xs ++ x ∷ ys) (length xs) ≡ Some x
-get_middle [] x ys = refl
-get_middle (y ∷ xs) x ys = get_middle xs x ys
-
-take_front : {X : Type 0} (xs ys : List X) → take (length xs) (xs ++ ys) ≡ xs
-take_front [] ys = refl
-take_front (x ∷ xs) ys = ap (λ l. x ∷ l) (take_front xs ys)
 
 take_one : {X : Type 0} (xs : List X) (x : X) (ys : List X) → take (suc (length xs)) (xs ++ x ∷ ys) ≡ xs ++ x ∷ []
 take_one [] x ys = refl
@@ -32,12 +27,6 @@ take_one (y ∷ xs) x ys = ap (λ l. y ∷ l) (take_one xs x ys)
 -- the row of a command that comes after others; what comes later says nothing of it
 unfoldable pub row_of : List Accepted → Accepted → CommandRow
 row_of commands a = record { number = suc (length commands); id = a.id; kind = a.kind; bytes = a.bytes; records = records_by a.content; placeholders = placeholders_by (commands ++ a ∷ []) (suc (length commands)) a.content }
-
-abbrev pub row_with : List Accepted → ℕ → Accepted → history.CommandRow
-row_with list n d = record { id = d.id; kind = d.kind; bytes = d.bytes; records = records_by d.content; placeholders = placeholders_by list n d.content }
-
-abbrev pub placed : ℕ → history.CommandRow → CommandRow
-placed n r = record { number = n; id = r.id; kind = r.kind; bytes = r.bytes; records = r.records; placeholders = r.placeholders }
 
 module _ (commands : List Accepted) (a : Accepted) (more : List Accepted) where
   abbrev whole : List Accepted
@@ -60,7 +49,7 @@ module _ (commands : List Accepted) (a : Accepted) (more : List Accepted) where
   pub row_is : command_at whole (suc (length commands)) ≡ Some (row_of commands a)
   unfolding row_of
   row_is =
-      ap (λ o. option_map (placed (suc (length commands))) (option_map (row_with whole (suc (length commands))) o)) (get_middle commands a more)
+      ap (λ o. option_map (placed (suc (length commands))) (option_map (row_with whole (suc (length commands))) o)) (get_middle commands more a)
       ∙ ap (λ n. Some (record { number = suc (length commands); id = a.id; kind = a.kind; bytes = a.bytes; records = records_by a.content; placeholders = n })) (same_count a.content)
 
 -- ---- the word of a kind

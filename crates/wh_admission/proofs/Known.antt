@@ -7,17 +7,18 @@ use Rattle.wh_history.specs.Accepted.{Accepted, Content, Governs, Describes, Sel
 use Rattle.wh_history.specs.Keys.{place, after_one}
 use Rattle.wh_history.specs.Tables.{Limits}
 use Rattle.wh_history.proofs.Numbers.{place-append_front}
+use Rattle.wh_history.proofs.Basics.{first_or}
 use Rattle.wh_rows.specs.Types.{is_key}
 use Rattle.wh_batch.specs.Kind.{command_word}
-use Rattle.wh_admission.specs.Admission.{bytes_kept, content_of, current_policy, accepted_as, receipt_of, receipt_told, already, by_id, number_for, answer_with, when_read, answer, with_content, after_answer, accepted_after, accepted_after_all, ActsOnceLater}
+use Rattle.wh_admission.specs.Admission.{bytes_kept, content_of, current_policy, accepted_as, receipt_of, receipt_told, already, number_for, answer_with, when_read, answer, with_content, after_answer, accepted_after, accepted_after_all, ActsOnceLater}
 use Rattle.wh_admission.specs.declared.command.Command.{Command}
 use Rattle.wh_admission.specs.declared.command.Receipt.{Receipt}
 use Rattle.wh_admission.specs.declared.command.Reply.{Reply}
 use Rattle.wh_admission.specs.declared.command.Reply.TheVariants.{Accepted as Accepts, Already}
 use Rattle.wh_admission.specs.declared.command.Refused.{Refused}
-use Rattle.wh_admission.specs.declared.command.Refused.TheVariants.{BadId, Reused}
+use Rattle.wh_admission.specs.declared.command.Refused.TheVariants.{Reused}
 use Rattle.wh_admission.proofs.AdmittedSteps.{all_added}
-use Rattle.wh_admission.proofs.Repeats.{first_or, find_last, new_id}
+use Rattle.wh_admission.proofs.Repeats.{find_last, new_id, by_case}
 use Rattle.wh_admission.proofs.StaysAccepted.{receipt_is}
 
 -- an accepted command has this one's id, kind and bytes
@@ -70,9 +71,6 @@ module _ (limits : Limits) where
     abbrev there : Option Accepted
     there = find (λ (a : Accepted). bytes_eq a.id c.id) commands
 
-    abbrev by_case : Bool → Option Accepted → Result Reply Refused
-    by_case b o = cond b (by_id limits commands c o) (Err BadId)
-
     -- what is read of a new command is never answered as a repeat
     read_anew : (read : Result Content Refused) (receipt : Receipt) → when_read limits commands c read ≡ Ok (Already receipt) → ⊥
     read_anew (Err why) receipt h = cc
@@ -86,7 +84,7 @@ module _ (limits : Limits) where
     same_bytes a true kept receipt h = refl
     same_bytes a false kept receipt h = absurd cc
 
-    repeat_known : (b : Bool) (o : Option Accepted) (receipt : Receipt) → is_key 40 c.id ≡ b → there ≡ o → by_case b o ≡ Ok (Already receipt) → IsKnown commands c
+    repeat_known : (b : Bool) (o : Option Accepted) (receipt : Receipt) → is_key 40 c.id ≡ b → there ≡ o → by_case limits commands c b o ≡ Ok (Already receipt) → IsKnown commands c
     repeat_known false o receipt good is h = absurd cc
     repeat_known true None receipt good is h = absurd (read_anew (content_of c.kind (format_of commands) (current_policy commands) c.bytes) receipt h)
     repeat_known true (Some a) receipt good is h = record {

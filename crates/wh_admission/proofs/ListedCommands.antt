@@ -19,7 +19,8 @@ use Rattle.wh_rows.specs.Rows as row
 use Rattle.wh_rows.specs.declared.rows.CommandRow.{CommandRow}
 use Rattle.wh_model.proofs.GrownKeys.{at_past}
 use Rattle.wh_model.proofs.Listed.{keyed, Ascends, equal_is}
-use Rattle.wh_admission.proofs.CommandRows.{row_of, row_is, row_with, placed}
+use Rattle.wh_model.proofs.GrownCommands.{row_with, placed}
+use Rattle.wh_admission.proofs.CommandRows.{row_of, row_is}
 
 -- the rows of commands that come after others, in the order of their numbers
 unfoldable pub rows_in : List Accepted → List Accepted → List CommandRow

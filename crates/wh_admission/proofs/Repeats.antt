@@ -13,9 +13,7 @@ use Rattle.wh_admission.specs.declared.command.Reply.{Reply}
 use Rattle.wh_admission.specs.declared.command.Reply.TheVariants.{Accepted as Accepts, Already}
 use Rattle.wh_admission.specs.declared.command.Refused.{Refused}
 use Rattle.wh_admission.specs.declared.command.Refused.TheVariants.{BadId, Reused}
-
-abbrev pub first_or : Bool → Accepted → Option Accepted → Option Accepted
-first_or b a o = cond b (Some a) o
+use Rattle.wh_history.proofs.Basics.{first_or}
 
 pub find_last : (p : Accepted → Bool) (x : Accepted) (xs : List Accepted) → find p xs ≡ None → p x ≡ true → find p (xs ++ x ∷ []) ≡ Some x
 find_last p x [] none passes = rw passes refl
@@ -29,7 +27,8 @@ module _ (limits : Limits) (commands : List Accepted) (c : Command) where
   abbrev found : Option Accepted
   found = find (λ (a : Accepted). bytes_eq a.id c.id) commands
 
-  abbrev by_case : Bool → Option Accepted → Result Reply Refused
+  -- the answer, by whether the id is good and which command has it
+  abbrev pub by_case : Bool → Option Accepted → Result Reply Refused
   by_case b o = cond b (by_id limits commands c o) (Err BadId)
 
   abbrev known_case : Bool → Receipt → Result Reply Refused

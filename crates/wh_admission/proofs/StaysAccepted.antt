@@ -5,7 +5,7 @@ use Rattle.std.specs.List.{AllByRecursion, IsDistinct, list_any}
 use Rattle.std.proofs.lemmas.Bool.{leb-false, ltb-false, and_parts, eqb-true}
 use Rattle.std.proofs.lemmas.List.Folds.{list_any-append}
 use Rattle.std.proofs.lemmas.Slice.Eq.{bytes_eq-Decides}
-use Rattle.wh_history.proofs.Basics.{or_true}
+use Rattle.wh_history.proofs.Basics.{or_true, or_none, first_or}
 use Rattle.std.proofs.lemmas.Grind.{flat_map-append}
 use Rattle.std.proofs.lemmas.List.{length-append, length-map, map-append}
 use Rattle.wh_policy.specs.Policy.{attributes_of, types_of}
@@ -42,7 +42,7 @@ use Rattle.wh_admission.specs.declared.command.Refused.{Refused}
 use Rattle.wh_admission.specs.declared.command.Refused.TheVariants.{Upgraded, NoLine, Full}
 use Rattle.wh_admission.specs.declared.command.Limit.TheVariants.{Commands, Changes, Facts}
 use Rattle.wh_admission.proofs.Migrated.{HasSix, policy_taken, policy_with, still_governed, still_six}
-use Rattle.wh_admission.proofs.Repeats.{first_or, new_id}
+use Rattle.wh_admission.proofs.Repeats.{new_id}
 use Rattle.wh_admission.proofs.GoodRecords.{good_records, few_records}
 use Rattle.wh_admission.proofs.GoodSales.{good_sales, none_discounted, few_sales, sales_once}
 use Rattle.wh_admission.proofs.GoodVoids.{voids_once, none_voided}
@@ -69,13 +69,10 @@ unknown id (a ∷ commands) h =
 
 -- ---- the lines of sales
 
-turned_twice : (b : Bool) → not (not b) ≡ b
+-- what is turned twice is as it was
+pub turned_twice : (b : Bool) → not (not b) ≡ b
 turned_twice true = refl
 turned_twice false = refl
-
-neither : (a b : Bool) → a || b ≡ false → (a ≡ false) × (b ≡ false)
-neither true b h = absurd cc
-neither false b h = (refl, h)
 
 -- no sale before has the line of one of these
 abbrev pub AreNew : List SaleRecord → List SaleRecord → Type 0
@@ -83,11 +80,11 @@ AreNew before sales = AllByRecursion (λ s. list_any (λ t. same_line t s) befor
 
 first_apart : (t : SaleRecord) (before sales : List SaleRecord) → AreNew (t ∷ before) sales → AllByRecursion (λ s. same_line t s ≡ false) sales
 first_apart t before [] new = tt
-first_apart t before (s ∷ sales) new = ((neither (same_line t s) (list_any (λ q. same_line q s) before) new.0).0, first_apart t before sales new.1)
+first_apart t before (s ∷ sales) new = ((or_none (same_line t s) (list_any (λ q. same_line q s) before) new.0).0, first_apart t before sales new.1)
 
 later_apart : (t : SaleRecord) (before sales : List SaleRecord) → AreNew (t ∷ before) sales → AreNew before sales
 later_apart t before [] new = tt
-later_apart t before (s ∷ sales) new = ((neither (same_line t s) (list_any (λ q. same_line q s) before) new.0).1, later_apart t before sales new.1)
+later_apart t before (s ∷ sales) new = ((or_none (same_line t s) (list_any (λ q. same_line q s) before) new.0).1, later_apart t before sales new.1)
 
 lines_joined : (before sales : List SaleRecord) → IsDistinct same_line before → IsDistinct same_line sales → AreNew before sales → IsDistinct same_line (before ++ sales)
 unfolding IsDistinct
@@ -143,11 +140,11 @@ all_stood before sales (v ∷ voids) all = ((stood before sales v all.0).0, all_
 -- a void of a line that was not withdrawn is apart from those before
 first_void_apart : (v : VoidRecord) (before voids : List VoidRecord) → AllByRecursion (λ w. withdraws_line w.ticket w.line (v ∷ before) ≡ false) voids → AllByRecursion (λ w. same_void v w ≡ false) voids
 first_void_apart v before [] all = tt
-first_void_apart v before (w ∷ voids) all = (line_turned w.ticket v.ticket w.line v.line ∙ (neither (bytes_eq v.ticket w.ticket && (v.line == w.line)) (withdraws_line w.ticket w.line before) all.0).0, first_void_apart v before voids all.1)
+first_void_apart v before (w ∷ voids) all = (line_turned w.ticket v.ticket w.line v.line ∙ (or_none (bytes_eq v.ticket w.ticket && (v.line == w.line)) (withdraws_line w.ticket w.line before) all.0).0, first_void_apart v before voids all.1)
 
 later_voids_apart : (v : VoidRecord) (before voids : List VoidRecord) → AllByRecursion (λ w. withdraws_line w.ticket w.line (v ∷ before) ≡ false) voids → AllByRecursion (λ w. withdraws_line w.ticket w.line before ≡ false) voids
 later_voids_apart v before [] all = tt
-later_voids_apart v before (w ∷ voids) all = ((neither (bytes_eq v.ticket w.ticket && (v.line == w.line)) (withdraws_line w.ticket w.line before) all.0).1, later_voids_apart v before voids all.1)
+later_voids_apart v before (w ∷ voids) all = ((or_none (bytes_eq v.ticket w.ticket && (v.line == w.line)) (withdraws_line w.ticket w.line before) all.0).1, later_voids_apart v before voids all.1)
 
 voids_joined : (before voids : List VoidRecord) → IsDistinct same_void before → IsDistinct same_void voids → AllByRecursion (λ w. withdraws_line w.ticket w.line before ≡ false) voids → IsDistinct same_void (before ++ voids)
 unfolding IsDistinct

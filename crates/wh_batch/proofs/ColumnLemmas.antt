@@ -6,6 +6,7 @@ use Rattle.std.specs.List.{find, zip}
 use Rattle.std.proofs.lemmas.Bool.{eqb-true, eqb-false}
 use Rattle.std.proofs.lemmas.Bool.Decides.{Decides-eqb}
 use Rattle.std.proofs.lemmas.List.{length-map}
+use Rattle.std.proofs.lemmas.Map.Made.{option_or-none}
 use Rattle.csv.specs.Records.{field_at}
 use Rattle.wh_day.specs.Reading.{◌>>=◌}
 use Rattle.wh_policy.specs.declared.attribute.Attribute.{Attribute}
@@ -41,10 +42,6 @@ first-in_turn (first ∷ columns) (field ∷ fields) = by_fault (fault_in first.
 or-assoc : {A : Type 0} (x y z : Option A) → option_or (option_or x y) z ≡ option_or x (option_or y z)
 or-assoc None y z = refl
 or-assoc (Some x) y z = refl
-
-or-none : {A : Type 0} (x : Option A) → option_or x None ≡ x
-or-none None = refl
-or-none (Some x) = refl
 
 -- a step, and what comes after it
 then-fault : {A B : Type 0} (read : Result A FaultKind) (more : A → Result B FaultKind) (rest : Option FaultKind) → ((x : A) → result_err (more x) ≡ rest) → result_err (read >>= more) ≡ option_or (result_err read) rest
@@ -125,7 +122,7 @@ sale-two (a ∷ b ∷ c ∷ d ∷ e ∷ f ∷ g ∷ h ∷ i ∷ j ∷ []) ten =
     let nine = a ∷ b ∷ c ∷ d ∷ e ∷ f ∷ g ∷ h ∷ i ∷ [] in
     then-fault (undiscounted nine) _ (result_err (discount_at j)) (λ sale. same-fault (discount_at j) _)
     ∙ ap (λ (o : Option FaultKind). option_or o (result_err (discount_at j))) (undiscounted-fault a b c d e f g h i)
-    ∙ ap (option_or (in_turn undiscounted_columns nine)) (sym (or-none (result_err (discount_at j))))
+    ∙ ap (option_or (in_turn undiscounted_columns nine)) (sym (option_or-none (result_err (discount_at j))))
     ∙ sym (in_turn-append undiscounted_columns (column (codes "discount") holds.Discount ∷ []) nine (j ∷ []) refl)
 sale-two _ ten = absurd (omega arith)
 

@@ -1,10 +1,11 @@
 -- Exactly the texts of the grammar are read as numbers.
-use Rattle.std.proofs.Common.{◌≡◌, ℕ, ◌+◌, ◌*◌, ◌<◌, ◌≤◌, ℤ, pos, neg_ℤ, Bool, true, false, ◌&&◌, cond, eqb, leb, ltb, List, [], ◌∷◌, ◌++◌, length, take, drop, get_or, Option, Some, None, refl, sym, arith, option_map, option_and_then, position, ◌⊎◌, inl, inr, subst, length-append}
+use Rattle.std.proofs.Common.{◌≡◌, ℕ, ◌+◌, ◌*◌, ◌<◌, ◌≤◌, ℤ, pos, neg_ℤ, Bool, true, false, ◌&&◌, cond, eqb, leb, ltb, List, [], ◌∷◌, ◌++◌, length, take, drop, get_or, Option, Some, None, refl, sym, arith, option_map, position, ◌⊎◌, inl, inr, subst, length-append}
 use Rattle.std.specs.Char.{is_ascii_digit}
 use Rattle.std.specs.List.{list_all, position_or_len}
 use Rattle.std.proofs.lemmas.Bool.{and_parts, leb-true, le-leb, eqb-true, eqb-false, ltb-true, le-ltb, lt-ltb, eq-eqb, ne_eqb}
 use Rattle.std.proofs.lemmas.List.Sums.{split_at_first, passes_at_first}
 use Rattle.std.proofs.Math.Seq.{take-append_seam, drop-append-add}
+use Rattle.std.proofs.lemmas.Option.{option_and_then_some}
 use Rattle.wh_batch.specs.Numbers.{read_digits, read_fraction, read_hundredths, read_line, read_quantity, read_amount, hundredths_at, is_point, signed}
 use Rattle.wh_batch.specs.Grammar.{WritesDigits, WritesLine, WritesHundredths, WritesSigned, WritesQuantity, WritesAmount, Reads}
 
@@ -30,15 +31,11 @@ option_map_some : {A B : Type 0} (f : A → B) (o : Option A) (y : B) → option
 option_map_some f (Some x) y h = (x, refl, cc)
 option_map_some f None y h = absurd cc
 
-and_then_some : {A B : Type 0} (f : A → Option B) (o : Option A) (y : B) → option_and_then f o ≡ Some y → (x : A) × (o ≡ Some x) × (f x ≡ Some y)
-and_then_some f (Some x) y h = (x, refl, h)
-and_then_some f None y h = absurd cc
-
 -- lines
 line_from : (text : List ℕ) (n : ℕ) → read_line text ≡ Some n → WritesLine text n
 unfolding read_line
 line_from text n h =
-    let (x, read, last) = and_then_some _ (read_digits 4 text) n h in
+    let (x, read, last) = option_and_then_some _ (read_digits 4 text) n h (λ x read last. (x, read, last)) in
     not_zero x (eqb x 0) refl read last
   where
     not_zero : (x : ℕ) (b : Bool) → b ≡ eqb x 0 → read_digits 4 text ≡ Some x → cond b None (Some x) ≡ Some n → WritesLine text n
@@ -182,7 +179,7 @@ amount_from text n h = at_point (ltb place (length text)) refl h
 
     at_point : (b : Bool) → b ≡ ltb place (length text) → hundredths_at text (cond b (Some place) None) ≡ Some n → WritesHundredths text n
     at_point true there h =
-        let (whole, read, rest) = and_then_some _ (read_digits 7 (take place text)) n h in
+        let (whole, read, rest) = option_and_then_some _ (read_digits 7 (take place text)) n h (λ whole read rest. (whole, read, rest)) in
         let (part, fraction, same) = option_map_some _ (read_fraction (drop (place + 1) text)) n rest in
         parts whole part (split_at_point text (ltb-true place (length text) (sym there))) (digits_from 7 (take place text) whole read) (fraction_from (drop (place + 1) text) part fraction) same
     at_point false none h =

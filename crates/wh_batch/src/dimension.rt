@@ -14,7 +14,7 @@ use crate::layout::RecordLayout;
 use crate::records::DimensionRecords;
 use csv::ByteRecord;
 use std::alloc::{AllocError, Global};
-use wh_day::ParseError;
+use wh_day::{KEY_LIMIT, ParseError};
 use wh_policy::{Attribute, Dim, DimensionRecord, Policy};
 
 /// The records of a batch for a dimension, in order. `Memory` comes where a growth was refused, or where the CSV reader
@@ -99,7 +99,7 @@ fn dimension_record(
     if values.len() != attributes {
         return Err(ParseError::Fault(FaultKind::WrongLength));
     }
-    let natural = key_of(32, id)?;
+    let natural = key_of(KEY_LIMIT, id)?;
     let day = effective_day_of(day)?;
     let values = values_of(alloc, values)?;
     Ok(DimensionRecord {

@@ -9,7 +9,7 @@ ghost use Rattle.wh_batch.specs.Fields.{key_at, customer_at, day_at, effective_d
 use crate::fault::FaultKind;
 use csv::ByteRecord;
 use std::alloc::{AllocError, Global};
-use wh_day::{Day, NaturalKey, ParseError, Value, Values};
+use wh_day::{Day, KEY_LIMIT, NaturalKey, ParseError, Value, Values};
 
 /// The fields of a row.
 pub(crate) fn fields_of(alloc: Global, row: &ByteRecord) -> Result<Vec<&[u8]>, AllocError>
@@ -63,7 +63,7 @@ pub(crate) fn customer_of(field: &[u8]) -> Result<Option<NaturalKey>, ParseError
 {
     match field {
         [] => Ok(None),
-        _ => Ok(Some(key_of(32, field)?)),
+        _ => Ok(Some(key_of(KEY_LIMIT, field)?)),
     }
 }
 

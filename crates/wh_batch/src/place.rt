@@ -11,7 +11,7 @@ use crate::holds::Holds;
 use crate::listed::{FaultyField, FieldText};
 use crate::numbers::{amount_of, discount_of, line_of, quantity_of};
 use std::alloc::{AllocError, Global};
-use wh_day::ParseError;
+use wh_day::{KEY_LIMIT, ParseError, TICKET_LIMIT};
 
 /// The fault of what was read.
 fn fault_of<T: Drop>(
@@ -35,8 +35,8 @@ pub(crate) fn fault_in(
     ensures { IfOk result (λ fault. fault ≡ fault_in holds text.now) }
 {
     match holds {
-        Holds::Ticket => fault_of(key_of(20, text)),
-        Holds::Key => fault_of(key_of(32, text)),
+        Holds::Ticket => fault_of(key_of(TICKET_LIMIT, text)),
+        Holds::Key => fault_of(key_of(KEY_LIMIT, text)),
         Holds::CustomerKey => fault_of(customer_of(text)),
         Holds::Day => fault_of(day_of(text)),
         Holds::EffectiveDay => fault_of(effective_day_of(text)),

@@ -16,7 +16,7 @@ use crate::numbers::{amount_of, discount_of, line_of, quantity_of};
 use crate::records::SaleRecords;
 use csv::ByteRecord;
 use std::alloc::{AllocError, Global};
-use wh_day::ParseError;
+use wh_day::{KEY_LIMIT, ParseError, TICKET_LIMIT};
 use wh_policy::{Format, Policy, SaleRecord, Years};
 
 /// The records of a batch of sales, in order. `Memory` comes where a growth was refused, or where the CSV reader gave up.
@@ -153,11 +153,11 @@ fn undiscounted(fields: &[&[u8]; 9]) -> Result<SaleRecord, ParseError<FaultKind>
         cost,
     ] = fields;
     Ok(SaleRecord {
-        ticket: key_of(20, ticket)?,
+        ticket: key_of(TICKET_LIMIT, ticket)?,
         line: line_of(line)?,
         day: day_of(day)?,
-        store: key_of(32, store)?,
-        product: key_of(32, product)?,
+        store: key_of(KEY_LIMIT, store)?,
+        product: key_of(KEY_LIMIT, product)?,
         customer: customer_of(customer)?,
         quantity: quantity_of(quantity)?,
         amount: amount_of(amount)?,

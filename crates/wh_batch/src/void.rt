@@ -15,7 +15,7 @@ use crate::numbers::line_of;
 use crate::records::VoidRecords;
 use csv::ByteRecord;
 use std::alloc::{AllocError, Global};
-use wh_day::ParseError;
+use wh_day::{ParseError, TICKET_LIMIT};
 use wh_policy::{Format, VoidRecord};
 
 /// The records of a batch of voids, in order; the first format has no such batch. `Memory` comes where a growth was refused, or
@@ -80,7 +80,7 @@ fn void_record(fields: &[&[u8]]) -> Result<VoidRecord, ParseError<FaultKind>>
     let [ticket, line] = fields else {
         return Err(ParseError::Fault(FaultKind::WrongLength));
     };
-    let ticket = key_of(20, ticket)?;
+    let ticket = key_of(TICKET_LIMIT, ticket)?;
     let line = line_of(line)?;
     Ok(VoidRecord { ticket, line })
 }

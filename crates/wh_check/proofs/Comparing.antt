@@ -1,5 +1,5 @@
 -- Rows that are handed out of what is stored, against those that should be stored.
-use Rattle.std.proofs.Common.{◌≡◌, ◌≢◌, ℕ, zero, suc, ◌+◌, ◌≤◌, Bool, true, false, cond, List, [], ◌∷◌, ◌++◌, map, filter, take, length, Option, Some, None, Result, Ok, Err, refl, sym, ap, subst, ◌∙◌, arith, inl, inr, append_assoc, append-nil, Ordering, Less, Equal, Greater}
+use Rattle.std.proofs.Common.{◌≡◌, ◌≢◌, ◌+◌, ◌≤◌, Bool, true, false, cond, List, [], ◌∷◌, ◌++◌, map, filter, length, Option, Some, None, Result, Ok, Err, refl, sym, ap, subst, ◌∙◌, arith, inl, inr, append_assoc, append-nil, Ordering, Less, Equal, Greater}
 use Rattle.std.specs.Prelude.{⊤, IsTrue, IfOk, is_none}
 use Rattle.std.specs.Cmp.{IsTotalOrder}
 use Rattle.std.specs.List.{AllByRecursion, list_all}
@@ -27,7 +27,9 @@ use Rattle.wh_sql.specs.declared.fault.ReadFault.TheVariants.{Memory, Damaged, S
 use Rattle.wh_store.specs.Scan.{HandsOut}
 use Rattle.wh_check.specs.Alike.{AreAlike}
 use Rattle.wh_check.specs.Compared.{IsNext, IsEnd}
-use Rattle.wh_rows.proofs.BehindStored.{all_two, none_kept}
+use Rattle.wh_rows.proofs.BehindStored.{all_two, none_kept, less_not_equal}
+use Rattle.wh_rows.proofs.Among.{has_taken}
+use Rattle.wh_policy.proofs.WrittenLemmas.{reverse_tied}
 
 -- the keys of the rows rise
 abbrev pub DoKeysRise : {K V : Type 0} → Layout K V → List V → Type 0
@@ -119,18 +121,8 @@ module _ {K V : Type 0} (layout : Layout K V) (bind : K → Row) (stands_at : K 
   abbrev NotBelow : Row → Row → Type 0
   NotBelow r s = is_gt (cmp r s) ≡ false
 
-  self_tie : (o : Ordering) → o ≡ ordering_reverse o → o ≡ Equal
-  self_tie Less h = absurd (cc)
-  self_tie Equal h = refl
-  self_tie Greater h = absurd (cc)
-
   stands : (v : V) (r : Row) → cmp r (layout.encode v) ≡ Equal → stands_at (layout.key v) r ≡ true
   stands v r tie = keyed.tied r (layout.key v) (sym (keyed.led r v) ∙ tie)
-
-  less_not_equal : (o : Ordering) → is_gt o ≡ false → o ≢ Equal → o ≡ Less
-  less_not_equal Less h not = refl
-  less_not_equal Equal h not = absurd (not refl)
-  less_not_equal Greater h not = absurd (cc)
 
   -- stored rows in order, of which at most one stands at each key, rise
   rises : (vs : List V) → ((k : K) → length (filter (stands_at k) (map layout.encode vs)) ≤ 1) → IsAscending NotBelow (map layout.encode vs) → IsAscending (Below cmp) (map layout.encode vs)
@@ -138,7 +130,7 @@ module _ {K V : Type 0} (layout : Layout K V) (bind : K → Row) (stands_at : K 
   rises (v ∷ vs) once up =
       let head = layout.encode v in
       let p = stands_at (layout.key v) in
-      let here : p head ≡ true = stands v head (self_tie (cmp head head) (total.antisymm head head)) in
+      let here : p head ≡ true = stands v head (reverse_tied (cmp head head) (total.antisymm head head)) in
       let apart = none_later p head (map layout.encode vs) (once (layout.key v)) here in (
         all_two (NotBelow head) (λ r. p r ≡ false) (Below cmp head) (map layout.encode vs)
             (λ r not_below other. less_not_equal (cmp head r) not_below (λ tie. let never : true ≡ false = sym (stands v r (total.antisymm r head ∙ ap ordering_reverse tie)) ∙ other in cc)) up.0 apart,
@@ -258,12 +250,6 @@ handed_end left rest (Some row) is = λ none. cc
 
 -- ---- damage
 
-taken_has : {X : Type 0} (n : ℕ) (xs : List X) (x : X) → Has (take n xs) x → Has xs x
-taken_has zero xs x h = absurd h
-taken_has (suc n) [] x h = absurd h
-taken_has (suc n) (y ∷ xs) x (inl same) = inl same
-taken_has (suc n) (y ∷ xs) x (inr later) = inr (taken_has n xs x later)
-
 pub kept_has : {X : Type 0} (p : X → Bool) (xs : List X) (x : X) → Has (filter p xs) x → Has xs x
 kept_has p [] x h = absurd h
 kept_has {X = X} p (y ∷ xs) x h = go (p y) h (kept_has p xs x)
@@ -278,6 +264,6 @@ pub part_damaged : {K V : Type 0} (front : Front) (layout : Layout K V) (table :
 part_damaged front layout table p stored Memory told = tt
 part_damaged front layout table p stored (Damaged which) told =
     let (shown, from, damage) = told.1 in
-    let among = has_again (filter p stored) from.ordered damage.0 from.same (taken_has front.most from.ordered damage.0 (subst (λ l. Has l damage.0) from.first damage.1)) in
+    let among = has_again (filter p stored) from.ordered damage.0 from.same (has_taken front.most from.ordered damage.0 (subst (λ l. Has l damage.0) from.first damage.1)) in
     (told.0, (damage.0, kept_has p stored damage.0 among, damage.2))
 part_damaged front layout table p stored (Store why) told = tt

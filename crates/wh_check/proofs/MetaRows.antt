@@ -1,5 +1,5 @@
 -- The rows of meta, and the limits that they say.
-use Rattle.std.proofs.Common.{◌≡◌, ◌⊎◌, inl, inr, ℕ, ℤ, Bool, true, false, cond, ◌&&◌, List, [], ◌∷◌, Option, Some, None, refl, sym, ap, subst, ◌∙◌}
+use Rattle.std.proofs.Common.{◌≡◌, ◌⊎◌, inl, inr, ℕ, ℤ, Bool, true, false, cond, List, [], ◌∷◌, Option, Some, None, sym, ap, subst, ◌∙◌}
 use Rattle.std.specs.Prelude.{codes}
 use Rattle.std.specs.Ordering.{eq_by_cmp, nat_cmp}
 use Rattle.std.specs.Cmp.Lexicographic.{slice_cmp}
@@ -10,7 +10,7 @@ use Rattle.wh_rows.specs.Raw.{Stored, HasDamage}
 use Rattle.wh_rows.specs.Rows as row
 use Rattle.wh_rows.specs.declared.rows.MetaRow.{MetaRow}
 use Rattle.wh_rows.specs.declared.table.Table.TheVariants.{Meta}
-use Rattle.wh_rows.proofs.Keys.{equal-Text}
+use Rattle.wh_rows.proofs.Keys.{equal-Text, and-true}
 use Rattle.wh_rows.proofs.Places as places
 use Rattle.wh_store.specs.Meta.{meta_number, limits_of_numbers}
 use Rattle.wh_store.specs.Raw.{LimitsAre, IsNumberIn, IsLimitless, rows_named}
@@ -29,12 +29,8 @@ use Rattle.wh_admission.proofs.CheckedTables.{meta_keyed}
 
 -- ---- the limits that are read
 
-and_true : (b : Bool) → b && true ≡ b
-and_true true = refl
-and_true false = refl
-
 stands_so : (k : List ℕ) (v : MetaRow) → stands_at_text k (row.meta.encode v) ≡ eq_by_cmp (slice_cmp nat_cmp) k v.name
-stands_so k v = and_true _ ∙ equal-Text v.name k
+stands_so k v = and-true _ ∙ equal-Text v.name k
 
 number_read : (stored : Stored) (limits : Limits) → AreRowsAt row.meta (meta_at stored.format limits) (stored.rows Meta) → (name : List ℕ) (number : Option ℤ) → IsNumberIn stored name number → number ≡ meta_number (meta_at stored.format limits name)
 number_read stored limits are name number it =

@@ -14,6 +14,6 @@ pub use calendar::{DateRow, date_row};
 pub use day::Day;
 pub use error::ParseError;
 pub use holiday::{Holiday, Holidays};
-pub use natural_key::{NaturalKey, is_key};
-pub use value::Value;
+pub use natural_key::{KEY_LIMIT, NaturalKey, TICKET_LIMIT, is_key};
+pub use value::{VALUE_LIMIT, Value};
 pub use values::{Values, are_same};

@@ -12,6 +12,12 @@ use std::hash::{Hash, Hasher};
 use std::marker::Model;
 use std::{fmt, str};
 
+/// The most bytes of a natural key.
+pub const KEY_LIMIT: usize = 32;
+
+/// The most bytes of a ticket's number.
+pub const TICKET_LIMIT: usize = 20;
+
 /// A key that a source gives, as the name of a member or the number of a ticket: 1 to 32 letters, digits, `-`, `_` and
 /// `.`, in the value itself. A contract sees its bytes.
 ///
@@ -19,7 +25,7 @@ use std::{fmt, str};
 /// Supernatural Keys" and "Degenerate Dimensions for Transaction Numbers".
 #[derive(Drop)]
 pub struct NaturalKey {
-    bytes: [u8; 32],
+    bytes: [u8; KEY_LIMIT],
     len: usize,
 }
 
@@ -36,11 +42,11 @@ impl NaturalKey {
     pub fn read(most: usize, field: &[u8]) -> Option<NaturalKey>
         ensures { result ≡ (if is_key (min most 32) field.now then Some field.now else None) }
     {
-        if !is_key(most.min(32), field) {
+        if !is_key(most.min(KEY_LIMIT), field) {
             return None;
         }
         let len = field.len();
-        let mut bytes = [0; 32];
+        let mut bytes = [0; KEY_LIMIT];
         bytes[..len].copy_from_slice(field);
         Some(NaturalKey { bytes, len })
     }

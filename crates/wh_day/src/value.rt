@@ -8,6 +8,9 @@ ghost use Rattle.std.specs.Str.{is_utf8};
 use std::alloc::{AllocError, Global};
 use std::marker::Model;
 
+/// The most bytes of a value that a source gives.
+pub const VALUE_LIMIT: usize = 60;
+
 /// A text of a row: an attribute's value, a natural key or a name. A contract sees its bytes.
 ///
 /// No attribute is null. Where there is no value a row says so in words: Kimball & Ross, *The Data Warehouse Toolkit*,
@@ -126,7 +129,7 @@ impl Value {
 fn plain(field: &[u8]) -> Option<&str>
     ensures { option_map (λ text. text.now) result ≡ (if is_plain field.now then Some field.now else None) }
 {
-    if field.len() <= 60 && is_all_printed(field) {
+    if field.len() <= VALUE_LIMIT && is_all_printed(field) {
         as_text(field)
     } else {
         None

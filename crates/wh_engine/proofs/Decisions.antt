@@ -76,10 +76,6 @@ module _ (limits : Limits) (commands : List Accepted) (content : Content) where
         has_room few fewer =
             past_lines ∙ rw (le-ltb limits.changes (changes_kept commands + changes_in content) few, le-ltb limits.facts (length (sold commands) + length (sold_by content)) fewer) refl
 
-pub is_none : {X : Type 0} (o : Option X) → ((x : X) → o ≡ Some x → ⊥) → o ≡ None
-is_none None other = refl
-is_none (Some x) other = absurd (other x refl)
-
 -- a content without sales has no line that is there
 pub no_line : (commands : List Accepted) (content : Content) → sold_by content ≡ [] → first_line_there (sold commands) 1 (sold_by content) ≡ None
 no_line commands content none = ap (first_line_there (sold commands) 1) none

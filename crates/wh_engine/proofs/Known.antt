@@ -7,6 +7,7 @@ use Rattle.wh_admission.specs.Admission.{answer, accepted_after, accepted_after_
 use Rattle.wh_engine.specs.Nights.{RefusesNone}
 use Rattle.wh_admission.specs.declared.command.Command.{Command}
 use Rattle.wh_admission.proofs.Known.{IsKnown, known_later, nothing_new, known_after}
+use Rattle.wh_history.proofs.Lists.{all_front}
 
 module _ (limits : Limits) where
   -- of which none was refused, all are known
@@ -19,10 +20,6 @@ module _ (limits : Limits) where
   all_repeat : (held : List Accepted) (sent : List Command) → AllByRecursion (λ c. IsKnown held c) sent → accepted_after_all limits held sent ≡ held
   all_repeat held [] known = refl
   all_repeat held (c ∷ sent) known = ap (λ list. accepted_after_all limits list sent) (nothing_new limits held c known.0) ∙ all_repeat held sent known.1
-
-  all_front : {X : Type 0} (P : X → Type 0) (xs ys : List X) → AllByRecursion P (xs ++ ys) → AllByRecursion P xs
-  all_front P [] ys all = tt
-  all_front P (x ∷ xs) ys all = (all.0, all_front P xs ys all.1)
 
   pub none_of_first : (commands : List Accepted) (first more : List Command) → RefusesNone limits commands (first ++ more) → RefusesNone limits commands first
   none_of_first commands [] more none = tt

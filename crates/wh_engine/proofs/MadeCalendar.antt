@@ -18,7 +18,7 @@ use Rattle.wh_plan.specs.FirstRows.{calendar_rows}
 use Rattle.wh_plan.proofs.WrittenRows.{written}
 use Rattle.wh_model.proofs.Growing.{Grows}
 use Rattle.wh_rows.specs.Steps.{with_rows}
-use Rattle.wh_migration.proofs.PlanCalendar.{month_short}
+use Rattle.wh_migration.proofs.PlanCalendar.{month_short, keyed}
 
 -- the rows of the days from a number on
 abbrev pub rows_from : Policy → ℕ → ℕ → List DateRow
@@ -72,16 +72,6 @@ no_day policy number end items within is whole =
     ]
 
 -- ---- what the table has
-
-keyed : (policy : Policy) (day : ℕ) (found : DateRow) → day_at policy day ≡ Some found → row.calendar.key found ≡ day
-unfolding calendar_row
-keyed policy day found is =
-    elim (cases_Bool (is_day day && leb policy.years.first (year_of day) && leb (year_of day) policy.years.last)) [
-      | inl all ↦
-          let some : Some (calendar_row policy.holidays day) ≡ Some found = rw all at is in
-          ap (λ (r : DateRow). r.date_key) (sym (some_is (calendar_row policy.holidays day) found some))
-      | inr not_all ↦ let none : None ≡ Some found = rw not_all at is in absurd (cc)
-    ]
 
 grows : (policy : Policy) (day : ℕ) → Grows (λ n. n) (policy.years.first * 10000 + 100) (policy.years.last * 10000 + 1231) (λ _. None) (day_at policy) day
 grows policy day =

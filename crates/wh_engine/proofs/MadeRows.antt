@@ -27,6 +27,7 @@ use Rattle.wh_rows.specs.Types.{is_special, is_slot, are_slots}
 use Rattle.wh_model.specs.Defined.{day_at}
 use Rattle.wh_plan.specs.FirstRows.{IsGoodPolicy, making_row, first_profiles, calendar_rows, MayBeFirst}
 use Rattle.wh_model.proofs.ValidCalendar.{weekday_utf8, none_utf8, day_utf8}
+use Rattle.wh_model.proofs.ValidSlots.{columns_length}
 
 -- ---- any rows
 
@@ -47,10 +48,6 @@ no_entries K V order = none (entries (empty {K = K} {X = V} {R = order})) (sym (
     none (e ∷ es) is = absurd (omega arith)
 
 -- ---- slots
-
-length_columns : (column : ℕ → AttributeType → List ℕ) (place : ℕ) (kinds : List AttributeType) → length (columns_from column place kinds) ≡ length kinds
-length_columns column place [] = refl
-length_columns column place (kind ∷ kinds) = ap (λ n. suc n) (length_columns column (suc place) kinds)
 
 slots_columns : (column : ℕ → AttributeType → List ℕ) → ((place : ℕ) (kind : AttributeType) → is_slot (column place kind) ≡ true) → (place : ℕ) (kinds : List AttributeType) → list_all is_slot (columns_from column place kinds) ≡ true
 slots_columns column each place [] = refl
@@ -80,7 +77,7 @@ slots_filled texts few slots =
     rw (long, all) refl
 
 columns_filled : (column : ℕ → AttributeType → List ℕ) → ((place : ℕ) (kind : AttributeType) → is_slot (column place kind) ≡ true) → (kinds : List AttributeType) → length kinds ≤ 6 → are_slots (six (columns_from column 0 kinds)) ≡ true
-columns_filled column each kinds few = slots_filled (columns_from column 0 kinds) (rw (length_columns column 0 kinds) few) (slots_columns column each 0 kinds)
+columns_filled column each kinds few = slots_filled (columns_from column 0 kinds) (rw (columns_length column 0 kinds) few) (slots_columns column each 0 kinds)
 
 slot_either : (b : Bool) (text other : List ℕ) → is_slot text ≡ true → is_slot other ≡ true → is_slot (cond b text other) ≡ true
 slot_either true text other is other_is = is

@@ -7,25 +7,14 @@ use Rattle.std.specs.List.{AllByRecursion, IsDistinct}
 use Rattle.wh_day.specs.Day.{is_day}
 use Rattle.wh_day.specs.Value.{none_text, unknown_text, no_card_text, is_plain}
 use Rattle.wh_policy.specs.Policy.{described, policy_at}
-use Rattle.wh_policy.specs.declared.policy.Policy.{Policy}
 use Rattle.wh_policy.specs.declared.attribute.Dim.{Dim}
 use Rattle.wh_policy.specs.declared.attribute.Dim.TheVariants.{Product, Store, Customer}
-use Rattle.wh_policy.specs.declared.attribute.AttributeType.TheVariants.{NewRow}
 use Rattle.wh_policy.specs.declared.record.DimensionRecord.{DimensionRecord}
 use Rattle.wh_history.specs.Accepted.{Accepted, Governs, Describes, types_in}
 use Rattle.wh_history.specs.Accepted as history
-use Rattle.wh_history.specs.Tables.{Limits}
 use Rattle.wh_rows.specs.Types.{is_slot, is_special}
 use Rattle.wh_model.specs.Sound.{IsGivenValue, IsGoodRecord, IsAccepted}
-
-abbrev policy : Policy
-policy = record {
-  product = described (codes "brand") NewRow ∷ [];
-  store = described (codes "city") NewRow ∷ [];
-  customer = described (codes "tier") NewRow ∷ [];
-  years = record { first = 2023; last = 2026 };
-  holidays = [];
-}
+use Rattle.wh_engine.proofs.Worked.{policy, limits}
 
 abbrev told : DimensionRecord
 told = record { natural = codes "P1"; day = 20240110; values = codes "Acme" ∷ [] }
@@ -36,9 +25,6 @@ commands =
     record { id = codes "init"; kind = codes "init"; bytes = codes "policy"; content = Governs policy }
     ∷ record { id = codes "p1"; kind = codes "product"; bytes = codes "first"; content = Describes Product (told ∷ []) }
     ∷ []
-
-abbrev limits : Limits
-limits = record { commands = 10; changes = 20; facts = 30 }
 
 acme : IsGivenValue (codes "Acme")
 unfolding is_slot is_special is_plain none_text unknown_text no_card_text is_utf8 chars encode

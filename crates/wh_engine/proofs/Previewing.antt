@@ -1,8 +1,6 @@
 -- What a command is answered under one new id it is answered under each.
-use Rattle.std.proofs.Common.{◌≡◌, ℕ, zero, suc, ◌-◌, Bool, true, false, List, [], ◌∷◌, ◌++◌, map, take, Option, Some, None, Result, Ok, Err, refl, sym, ap, subst, ◌∙◌}
-use Rattle.std.specs.Prelude.{◌≢◌, find, bytes_eq}
-use Rattle.std.specs.List.{AllByRecursion}
-use Rattle.std.proofs.lemmas.Slice.Eq.{bytes_eq-Decides}
+use Rattle.std.proofs.Common.{◌≡◌, ℕ, zero, suc, ◌-◌, true, List, [], ◌∷◌, ◌++◌, map, take, Option, Some, Result, Ok, Err, refl, sym, ap, subst, ◌∙◌}
+use Rattle.std.specs.Prelude.{bytes_eq}
 use Rattle.sqlite.specs.State.{State}
 use Rattle.wh_policy.specs.declared.attribute.Dim.{Dim}
 use Rattle.wh_policy.specs.declared.attribute.Dim.TheVariants.{Product, Store, Customer}
@@ -20,7 +18,7 @@ use Rattle.wh_admission.specs.declared.command.Receipt.{Receipt}
 use Rattle.wh_admission.specs.declared.command.Refused.{Refused as Refusal}
 use Rattle.wh_admission.specs.declared.command.Reply.{Reply}
 use Rattle.wh_admission.specs.declared.command.Reply.TheVariants.{Accepted as Accepts}
-use Rattle.wh_admission.proofs.Repeats.{first_or}
+use Rattle.wh_admission.proofs.AnswersByCases.{none_has, none_found}
 use Rattle.wh_plan.specs.Edits.{AreEdits, Edits}
 use Rattle.wh_engine.specs.Answered.{IsReady}
 use Rattle.wh_engine.specs.Decided.{Decides, IsEffectOf, IsHeld, IsNew}
@@ -33,27 +31,6 @@ use Rattle.wh_engine.specs.declared.session.Session.{Session}
 use Rattle.wh_engine.proofs.Decisions.{after_accepted, judged_ok, new_answer}
 use Rattle.wh_engine.proofs.Outcomes.{fault_due, read_and_noted}
 use Rattle.wh_engine.proofs.Performing.{held}
-
--- ---- an id that no accepted command has
-
-abbrev has_id : List ℕ → Accepted → Bool
-has_id id a = bytes_eq a.id id
-
-none_has : (id : List ℕ) (commands : List Accepted) → find (has_id id) commands ≡ None → AllByRecursion (λ a. a.id ≢ id) commands
-none_has id [] none = tt
-none_has id (b ∷ commands) none =
-    elim (bytes_eq b.id id) as (λ v. (bytes_eq b.id id ≡ v) → first_or v b (find (has_id id) commands) ≡ None → AllByRecursion (λ a. a.id ≢ id) (b ∷ commands)) [
-      | true ↦ λ _ some. absurd cc
-      | false ↦ λ other rest. (λ same. let yes = (bytes_eq-Decides b.id id).1 same in cc, none_has id commands rest)
-    ] refl none
-
-none_found : (id : List ℕ) (commands : List Accepted) → AllByRecursion (λ a. a.id ≢ id) commands → find (has_id id) commands ≡ None
-none_found id [] others = refl
-none_found id (b ∷ commands) others =
-    elim (bytes_eq b.id id) as (λ v. (bytes_eq b.id id ≡ v) → first_or v b (find (has_id id) commands) ≡ None) [
-      | true ↦ λ same. absurd (others.0 ((bytes_eq-Decides b.id id).0 same))
-      | false ↦ λ _. none_found id commands others.1
-    ] refl
 
 -- ---- the members do not depend on the last command's id
 

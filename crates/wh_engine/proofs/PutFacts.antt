@@ -5,7 +5,6 @@ use Rattle.std.specs.FinMap.{FinMap}
 use Rattle.wh_policy.specs.declared.format.Format.{Format}
 use Rattle.wh_policy.specs.declared.format.Format.TheVariants.{One, Two}
 use Rattle.wh_history.specs.declared.facts.Fact.{Fact}
-use Rattle.wh_history.specs.declared.plan.Edit.TheVariants.{Put}
 use Rattle.wh_rows.specs.Facts.{fact_layout, facts_in, with_facts_in}
 use Rattle.wh_rows.specs.Rows as row
 use Rattle.wh_rows.specs.Steps.{with_row, with_rows, after_all}
@@ -17,7 +16,7 @@ use Rattle.wh_store.proofs.Looping.{IsOnTheWay, in_parts}
 use Rattle.wh_plan.specs.Edits.{with_fact_edit}
 use Rattle.wh_plan.specs.Writable.{IsValidFactEdit}
 use Rattle.wh_plan.specs.declared.edits.FactEdit.{FactEdit}
-use Rattle.wh_plan.specs.declared.edits.FactEdit.TheVariants.{Row}
+use Rattle.wh_plan.specs.FactEdits.{put_of}
 use Rattle.wh_engine.specs.Writing.{with_fact_edits}
 
 -- ---- one after the other
@@ -41,16 +40,13 @@ way_ends Two es i now whole over way = looping.way_ends row.fact2 with_fact_edit
 
 -- ---- several at once
 
-abbrev pub putting : Fact → FactEdit
-putting fact = Row (Put fact)
-
 -- the facts of valid edits are valid
-pub valid_facts : (format : Format) (facts : List Fact) → AllByRecursion (IsValidFactEdit format) (map putting facts) → AllByRecursion (IsValid (fact_layout format)) facts
+pub valid_facts : (format : Format) (facts : List Fact) → AllByRecursion (IsValidFactEdit format) (map put_of facts) → AllByRecursion (IsValid (fact_layout format)) facts
 valid_facts format [] may = tt
 valid_facts format (fact ∷ facts) may = (may.0, valid_facts format facts may.1)
 
 -- such edits lead to the facts put, one after the other
-pub facts_put : (facts : List Fact) (m : FinMap row.fact.order Fact) → after_all with_fact_edit (map putting facts) m ≡ with_rows row.fact facts m
+pub facts_put : (facts : List Fact) (m : FinMap row.fact.order Fact) → after_all with_fact_edit (map put_of facts) m ≡ with_rows row.fact facts m
 facts_put [] m = refl
 facts_put (fact ∷ facts) m = facts_put facts (with_row row.fact fact m)
 

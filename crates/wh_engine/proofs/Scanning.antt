@@ -1,6 +1,6 @@
 -- What a call that reads leaves of an engine, and its faults.
 use Rattle.std.proofs.Common.{◌≡◌, Bool, false, ◌||◌, List, Result, Ok, Err, Some, IfErr, IsTrue, refl, sym, ap, subst}
-use Rattle.std.specs.Prelude.{IsErr, IsErrAnd, IsOk, Option}
+use Rattle.std.specs.Prelude.{IsErr, IsErrAnd, IsOk, Option, ⊤}
 use Rattle.sqlite_trees.specs.declared.store.Store.{Ghosts}
 use Rattle.sqlite.specs.Order.{Row}
 use Rattle.sqlite.specs.State.{State}
@@ -12,7 +12,7 @@ use Rattle.wh_rows.specs.Holds.{Layout}
 use Rattle.wh_rows.specs.Tables.{Tables}
 use Rattle.wh_rows.specs.Raw.{Stored}
 use Rattle.wh_rows.specs.declared.table.Table.{Table}
-use Rattle.wh_store.specs.Reads.{SparesRows, SparesStore, NamesDamage, IsOfAskedDamage, state_of}
+use Rattle.wh_store.specs.Reads.{SparesRows, SparesStore, NamesDamage, IsOfAskedDamage, state_of, ReadsOnly, Spares}
 use Rattle.wh_store.specs.declared.tables.Tables.{Tables as HeldTables}
 use Rattle.wh_sql.specs.declared.fault.ReadFault.{ReadFault}
 use Rattle.wh_sql.specs.declared.fault.ReadFault.TheVariants as reading
@@ -70,6 +70,22 @@ still_tells taken (Ok x) why came = tt
 still_tells {A} taken (Err fault) reading.Memory came = subst (λ (f : Fault). TellsTaken {A = A} taken (Err f)) (sym came.1) tt
 still_tells {A} taken (Err fault) (reading.Damaged table) came = subst (λ (f : Fault). TellsTaken {A = A} taken (Err f)) (sym came.1) tt
 still_tells {A} taken (Err fault) (reading.Store cause) came = subst (λ (f : Fault). TellsTaken {A = A} taken (Err f)) (sym came.1) tt
+
+-- after a reading that was answered another failed: both leave of the tables what one reading leaves
+pub failed_after : {S A B : Type 0} (g : Ghosts S) (old new : HeldTables S) (between : State) (why : ReadFault) (result : Result A Fault) → Spares (state_of g old) between ⊤ → ReadsOnly {A = B} between (state_of g new) (Err why)
+    → IsErr result × IsErrAnd result (λ fault. fault ≡ of_reading why) → Reads g old new result
+failed_after g old new between why result first last came = record {
+  spares = record {
+    clean = λ clean. first.clean (last.clean clean);
+    same = λ clean t rests served. last.same clean t (first.same (last.clean clean) t rests tt) (still_served result why came served);
+    left = λ clean t rests. last.left clean t (first.same (last.clean clean) t rests tt);
+    rests = λ clean stored rests served. last.rests clean stored (first.rests (last.clean clean) stored rests tt) (still_served result why came served);
+    leaves = λ clean stored rests. last.leaves clean stored (first.rests (last.clean clean) stored rests tt);
+  };
+  blames = λ clean stored rests. still_blames stored result why came (last.named clean stored (first.rests (last.clean clean) stored rests tt));
+  work = still_works result why came;
+  taken = still_tells _ result why came;
+}
 
 -- ---- a row that was handed out, or refused
 

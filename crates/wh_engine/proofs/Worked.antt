@@ -15,7 +15,8 @@ use Rattle.wh_history.specs.declared.rows.DimRow.{DimRow}
 use Rattle.wh_model.specs.Defined.{meta_at, command_at, member_at, change_at, profile_at, calendar_at, fact_at}
 use Rattle.wh_plan.specs.BatchRows.{numbers_after}
 
-abbrev policy : Policy
+-- a policy of one attribute a dimension
+abbrev pub policy : Policy
 policy = record {
   product = described (codes "brand") NewRow ∷ [];
   store = described (codes "city") NewRow ∷ [];
@@ -35,7 +36,8 @@ commands =
     ∷ record { id = codes "p2"; kind = codes "product"; bytes = codes "second"; content = Describes Product (told (codes "P2") 20240301 (codes "Leaf") ∷ told (codes "P1") 20240120 (codes "Bolt") ∷ []) }
     ∷ []
 
-abbrev limits : Limits
+-- limits of small numbers
+abbrev pub limits : Limits
 limits = record { commands = 10; changes = 20; facts = 30 }
 
 -- texts of one slot

@@ -29,7 +29,8 @@ limits commands changes facts = record { commands = commands; changes = changes;
 abbrev sent : List ℕ → Kind → List ℕ → Command
 sent id kind bytes = record { id = id; kind = Batch kind; bytes = bytes }
 
-abbrev receipt : ℕ → ℕ → ℕ → Receipt
+-- a receipt with these numbers
+abbrev pub receipt : ℕ → ℕ → ℕ → Receipt
 receipt number records placeholders = record { number = number; records = records; placeholders = placeholders }
 
 -- a making, and then a batch of a header alone

@@ -29,7 +29,7 @@ use wh_migration::{plan_migration, plan_upgrade};
 use wh_plan::reading::command_of;
 use wh_plan::{Edits, Terms, plan_batch, plan_sales, plan_voids};
 use wh_policy::{Dim, Format, Policy, SaleRecord, VoidRecord};
-use wh_rows::CommandRow;
+use wh_rows::{CommandRow, ID_LIMIT};
 use wh_store::Tables;
 
 /// What is to be done about a command.
@@ -375,7 +375,7 @@ pub(crate) fn decide<S: Alter>(
     ensures brings { IfOk result (Brings session.now.policy command.now) }
     ensures again { WhenStored S.Store tables.old tables.new (λ stored. IfOk result (RepeatsKept stored command.now)) }
 {
-    if !is_key(40, command.id.as_str().as_bytes()) {
+    if !is_key(ID_LIMIT, command.id.as_str().as_bytes()) {
         return Err(Fault::Refused(Refused::BadId));
     }
     match command_of(tables, alloc, &command.id)? {

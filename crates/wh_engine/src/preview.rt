@@ -22,7 +22,7 @@ use wh_batch::CommandKind;
 use wh_day::{Value, is_key};
 use wh_plan::Edits;
 use wh_plan::reading::command_of;
-use wh_rows::Cause;
+use wh_rows::{Cause, ID_LIMIT};
 use wh_store::{ReadFault, Tables};
 
 /// What a command would be answered, and what it would write.
@@ -49,7 +49,7 @@ fn is_free<S: Alter>(tables: &mut Tables<S>, alloc: Global, id: &Value) -> Resul
     ensures new { WhenOfCommands S.Store tables.old tables.new (λ _ commands. HaveDistinctIds commands → IfOk result (λ free. free ≡ true → command_with commands id.now ≡ None)) }
     ensures free { WhenStored S.Store tables.old tables.new (λ stored. IfOk result (λ free. free ≡ true → HasNoCommandOf stored id.now)) }
 {
-    if !is_key(40, id.as_str().as_bytes()) {
+    if !is_key(ID_LIMIT, id.as_str().as_bytes()) {
         return Ok(false);
     }
     let row = command_of(tables, alloc, id)?;

@@ -3,7 +3,7 @@
 use std::alloc::{AllocError, Global};
 use toml::{Table, Value as TomlValue};
 use wh_day::{Day, Value};
-use wh_policy::{PolicyFault, Years};
+use wh_policy::{NAME_LIMIT, PolicyFault, Years};
 
 /// The keys of an attribute's table, and of a holiday's.
 const ATTRIBUTE_KEYS: [&str; 2] = ["name", "type"];
@@ -97,7 +97,7 @@ fn is_name(text: &str) -> bool {
         .first()
         .is_some_and(|first| first.is_ascii_lowercase())
         && bytes.iter().all(|byte| is_name_byte(*byte))
-        && bytes.len() <= 24
+        && bytes.len() <= NAME_LIMIT
         && text != "id"
         && text != "day"
 }

@@ -3,14 +3,15 @@
 use crate::shown::{push_number, push_text};
 use std::alloc::AllocError;
 use wh_batch::Holds;
+use wh_day::{KEY_LIMIT, TICKET_LIMIT, VALUE_LIMIT};
 use wh_policy::Years;
 
 /// The most bytes of a field that has a limit.
 pub(crate) fn most_bytes(holds: Holds) -> Option<usize> {
     match holds {
-        Holds::Ticket => Some(20),
-        Holds::Key | Holds::CustomerKey => Some(32),
-        Holds::Value => Some(60),
+        Holds::Ticket => Some(TICKET_LIMIT),
+        Holds::Key | Holds::CustomerKey => Some(KEY_LIMIT),
+        Holds::Value => Some(VALUE_LIMIT),
         _ => None,
     }
 }

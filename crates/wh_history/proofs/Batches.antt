@@ -1,5 +1,5 @@
 -- A batch is its records, one after the other.
-use Rattle.std.proofs.Common.{◌≡◌, ℕ, Bool, true, false, cond, ◌||◌, List, [], ◌∷◌, ◌++◌, length, map, drop, replicate, ◌-◌, ◌≤◌, suc, arith, length-append, refl, sym, ◌∙◌, ap, subst, append-nil, Option, Some, None}
+use Rattle.std.proofs.Common.{◌≡◌, ℕ, true, false, cond, ◌||◌, List, [], ◌∷◌, ◌++◌, length, map, drop, replicate, ◌-◌, ◌≤◌, suc, arith, length-append, refl, sym, ◌∙◌, ap, subst, append-nil, Option, Some, None}
 use Rattle.std.specs.Prelude.{filter, bytes_eq, find, unwrap_or, flat_map}
 use Rattle.std.specs.List.{list_any, AllByRecursion}
 use Rattle.std.proofs.lemmas.Slice.Eq.{bytes_eq-Decides}
@@ -13,7 +13,7 @@ use Rattle.wh_policy.specs.declared.attribute.Dim.{Dim}
 use Rattle.wh_history.specs.declared.member.Member.{Member}
 use Rattle.wh_history.proofs.Numbers.{distinct-append}
 use Rattle.wh_history.proofs.Untouched.{mentions-last, described-last, member-last}
-use Rattle.wh_history.proofs.Basics.{or_none}
+use Rattle.wh_history.proofs.Basics.{or_none, first_or}
 use Rattle.wh_day.specs.Value.{none_text}
 use Rattle.wh_history.specs.Slots.{padded}
 use Rattle.wh_history.proofs.Lasts.{fresh_one}
@@ -28,9 +28,6 @@ same_dimension dim rs = elim dim as (λ d. described_by d (Describes d rs) ≡ r
 
 no_less : (xs ys zs : List Anchor) → xs ≡ ys ++ zs → length ys ≤ length xs
 no_less xs ys zs e = let n = ap (λ (as' : List Anchor). length as') e ∙ length-append ys zs in omega arith
-
-abbrev put_unless : Bool → Member → Option Member → Option Member
-put_unless b m o = cond b (Some m) o
 
 -- a member, by what was mentioned and said of its dimension
 abbrev member_by : List Anchor → List DimensionRecord → List ℕ → Member
@@ -106,7 +103,7 @@ module _ (dim : Dim) (commands : List Accepted) (id kind bytes : List ℕ) where
   found_there : (rs : List DimensionRecord) (n : List ℕ) (ns : List (List ℕ)) → list_any (λ m. bytes_eq m n) ns ≡ true → find (λ (m : Member). bytes_eq m.natural n) (map (M rs) ns) ≡ Some (M rs n)
   found_there rs n [] h = cc
   found_there rs n (m ∷ ns) h =
-      elim (bytes_eq m n) as (λ b. (bytes_eq m n ≡ b) → (b || list_any (λ m. bytes_eq m n) ns) ≡ true → put_unless b (M rs m) (find (λ (m : Member). bytes_eq m.natural n) (map (M rs) ns)) ≡ Some (M rs n)) [
+      elim (bytes_eq m n) as (λ b. (bytes_eq m n ≡ b) → (b || list_any (λ m. bytes_eq m n) ns) ≡ true → first_or b (M rs m) (find (λ (m : Member). bytes_eq m.natural n) (map (M rs) ns)) ≡ Some (M rs n)) [
         | true ↦ λ e _. ap (λ (m : List ℕ). Some (M rs m)) ((bytes_eq-Decides m n).0 e)
         | false ↦ λ e t. found_there rs n ns t
       ] refl h

@@ -26,6 +26,7 @@ use Rattle.wh_day.proofs.Days.{from_first, to_last}
 use Rattle.wh_history.proofs.Spans.{Rises, InOrder, InOrder-dated, Rises-starts}
 use Rattle.wh_history.proofs.Places.{at_place-place, one_place, place-distinct_given, anchors_decide}
 use Rattle.wh_history.proofs.Joins.{InSpans, in_spans_above, start_anchor, Keyed, key_of_start, find_by_key, found_span}
+use Rattle.wh_history.proofs.Shown.{from_held, to_held}
 
 pub days_in : (dim : Dim) (commands : List Accepted) (natural : List ℕ) (rs : List DimensionRecord) → AllByRecursion (λ r. is_day r.day ≡ true) rs → ChangesHaveDays (map (change_of dim commands) (filter (λ r. bytes_eq r.natural natural) rs))
 days_in dim commands natural [] all = tt
@@ -114,12 +115,6 @@ module _ (dim : Dim) (commands : List Accepted) (natural : List ℕ) (ends : Rec
       ap (option_and_then (λ (a : Anchor). find (λ (r : DimRow). r.surrogate == start_key (member_of dim commands natural) s.0) (member_rows commands dim a.natural))) placed
       ∙ find_by_key dim commands natural kinds number s first_day (starts (types_in dim commands) (dated (changes_of dim commands natural))) rising keyed here
 
-holds_from : (day : ℕ) (r : DimRow) → holds day r ≡ true → r.from_day ≤ day
-holds_from day r h = grind (arith, nat_tests)
-
-holds_to : (day : ℕ) (r : DimRow) → holds day r ≡ true → day ≤ r.to_day
-holds_to day r h = grind (arith, nat_tests)
-
 -- each row of the table stands for an anchor
 pub came_from : (dim : Dim) (commands : List Accepted) (key : ℕ) (q : DimRow) (o : Option Anchor) → at_place key (anchors dim commands) ≡ o → option_and_then (λ (a : Anchor). find (λ (r : DimRow). r.surrogate == key) (member_rows commands dim a.natural)) o ≡ Some q → (a : Anchor) × (find (λ (r : DimRow). r.surrogate == key) (member_rows commands dim a.natural) ≡ Some q)
 came_from dim commands key q None is h = cc
@@ -161,8 +156,8 @@ module _ (dim : Dim) (commands : List Accepted) (natural : List ℕ) (ends : Rec
       let same : natural ≡ a.natural = one_place bytes_eq bytes_eq-Decides natural a.natural (members dim commands) durable_given durable in
       let found : find (λ (r : DimRow). r.surrogate == key) (member_rows commands dim natural) ≡ Some q = subst (λ (n : List ℕ). find (λ (r : DimRow). r.surrogate == key) (member_rows commands dim n) ≡ Some q) (sym same) from.1 in
       let mine = found_span dim commands natural (types_in dim commands) (profile_now (types_in dim commands) (profiles_of commands) (member_of dim commands natural)) (λ (r : DimRow). r.surrogate == key) q first_day starts_here found in
-      let low : mine.0.0 ≤ day = subst (λ (r : DimRow). r.from_day ≤ day) mine.2 (holds_from day q holds_day) in
-      let high : day ≤ mine.0.1 = subst (λ (r : DimRow). day ≤ r.to_day) mine.2 (holds_to day q holds_day) in
+      let low : mine.0.0 ≤ day = subst (λ (r : DimRow). r.from_day ≤ day) mine.2 (from_held day q holds_day) in
+      let high : day ≤ mine.0.1 = subst (λ (r : DimRow). day ≤ r.to_day) mine.2 (to_held day q holds_day) in
       let one : s ≡ mine.0 = one_span day s mine.0 first_day starts_here (rising dim commands natural ends member) here mine.1 after before low high in
       let passes = find_passes (λ (r : DimRow). r.surrogate == key) q (member_rows commands dim natural) found in
       let is = eqb-true q.surrogate key passes in
@@ -194,8 +189,8 @@ module _ (dim : Dim) (commands : List Accepted) (natural : List ℕ) (ends : Rec
       let here : dimension_row commands dim (start_key (member_of dim commands natural) mine.0.0) ≡ Some (row_here mine.0) = in_table dim commands (start_key (member_of dim commands natural) mine.0.0) given ∙ stands dim commands natural ends member mine.0 mine.1 in
       let number : key_at commands dim day natural ≡ (row_here mine.0).surrogate = key ∙ ap (λ (q : DimRow). q.surrogate) mine.2 in
       let passes = find_passes (holds day) r (member_rows commands dim natural) found in
-      let low : mine.0.0 ≤ day = subst (λ (r : DimRow). r.from_day ≤ day) mine.2 (holds_from day r passes) in
-      let high : day ≤ mine.0.1 = subst (λ (r : DimRow). day ≤ r.to_day) mine.2 (holds_to day r passes) in
+      let low : mine.0.0 ≤ day = subst (λ (r : DimRow). r.from_day ≤ day) mine.2 (from_held day r passes) in
+      let high : day ≤ mine.0.1 = subst (λ (r : DimRow). day ≤ r.to_day) mine.2 (to_held day r passes) in
       record {
         row = r;
         there = ap (dimension_row commands dim) number ∙ here ∙ ap Some (sym mine.2);

@@ -1,4 +1,5 @@
 pub mod Basics
+pub mod Lists
 pub mod Calendar
 pub mod Steps
 pub mod Columns

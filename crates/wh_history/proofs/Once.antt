@@ -2,7 +2,7 @@
 use Rattle.std.proofs.Common.{◌≡◌, Bool, true, false, cond, not, ◌||◌, List, [], ◌∷◌, refl, sym, arith}
 use Rattle.std.specs.Prelude.{filter}
 use Rattle.std.specs.Bool.{Decides}
-use Rattle.std.specs.List.{list_any}
+use Rattle.std.specs.List.{list_any, AllByRecursion}
 use Rattle.wh_history.specs.Keys.{distinct, place, after_one}
 use Rattle.wh_history.proofs.Numbers.{none_after_one, place-distinct_none}
 use Rattle.wh_history.proofs.Places.{place-distinct_given}
@@ -55,6 +55,11 @@ module _ {X : Type 0} (same : X → X → Bool) (decides : (x y : X) → Decides
     | true ↦ λ e. let is = (decides y x).0 e in let back = (decides x y).1 (sym is) in cc
     | false ↦ λ e. refl
   ] refl
+
+  -- so what is the same as none of a list is none of it
+  pub none_same : (x : X) (ys : List X) → AllByRecursion (λ y. same x y ≡ false) ys → list_any (λ y. same y x) ys ≡ false
+  none_same x [] all = refl
+  none_same x (y ∷ ys) all = rw (apart x y all.0, none_same x ys all.1) refl
 
   filtered_out : (x : X) (xs : List X) → list_any (λ y. same y x) (filter (λ y. not (same x y)) xs) ≡ false
   filtered_out x [] = refl

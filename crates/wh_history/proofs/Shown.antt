@@ -115,10 +115,12 @@ same_value kinds [] day s place kind up here after before is counts = refl
 same_value kinds (c ∷ cs) day s place kind up here after before is counts =
     same_slot kinds place kind (in_force day c cs) (in_force s.0 c cs) is counts (same_on_span kinds day s first_day c cs up.0 up.1 (from_first c.day up.0) here after before)
 
-from_held : (day : ℕ) (r : DimRow) → holds day r ≡ true → r.from_day ≤ day
+-- a row that holds a day begins by then
+pub from_held : (day : ℕ) (r : DimRow) → holds day r ≡ true → r.from_day ≤ day
 from_held day r h = grind (arith, nat_tests)
 
-to_held : (day : ℕ) (r : DimRow) → holds day r ≡ true → day ≤ r.to_day
+-- and ends then or later
+pub to_held : (day : ℕ) (r : DimRow) → holds day r ≡ true → day ≤ r.to_day
 to_held day r h = grind (arith, nat_tests)
 
 pub shows_the_day : (kinds : List AttributeType) (combinations : List (List (List ℕ))) (m : Member) (day : ℕ) (r : DimRow) (place : ℕ) (kind : AttributeType) → ChangesHaveDays m.changes → find (holds day) (rows kinds combinations m) ≡ Some r → slice_get kinds place ≡ Some kind → is_tracked kind ≡ true → slice_get r.a place ≡ Some (value_at day place m.changes)

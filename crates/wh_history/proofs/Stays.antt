@@ -76,38 +76,29 @@ pub all_at : (P : Change → Type 0) (day : ℕ) (cs : List Change) → AllByRec
 all_at P day [] all = tt
 all_at P day (ch ∷ cs) all = all_in_force P day ch cs all.0 all.1
 
-module _ (commands : List Accepted) (c : Accepted) (batch : governs c.content ≡ false) where
-  abbrev pick : DimensionRecord → List (List ℕ)
+module _ (commands : List Accepted) where
+  -- the combination of a record
+  abbrev pub pick : DimensionRecord → List (List ℕ)
   pick r = picks is_profile (types_in Customer commands) r.values
 
-  -- a batch only adds combinations at the end
-  pub profiles-last : profiles_of (commands ++ c ∷ []) ≡ profiles_of commands ++ fresh are_same (map pick (described Customer commands)) (distinct are_same (map pick (described_by Customer c.content)))
-  profiles-last =
-      ap (λ (kinds : List AttributeType). distinct are_same (map (λ (r : DimensionRecord). picks is_profile kinds r.values) (described Customer (commands ++ c ∷ [])))) (types-last Customer commands c batch)
-      ∙ ap (λ (rs : List DimensionRecord). distinct are_same (map pick rs)) (described-last Customer commands c)
-      ∙ ap (distinct are_same) (map-append pick (described Customer commands) (described_by Customer c.content))
-      ∙ distinct-append are_same (map pick (described Customer commands)) (map pick (described_by Customer c.content))
-
-  -- a number that was given stays
-  pub profile_stays : (texts : List (List ℕ)) → 0 < place are_same texts (profiles_of commands) → profile_number (profiles_of (commands ++ c ∷ [])) texts ≡ profile_number (profiles_of commands) texts
-  profile_stays texts given =
-      ap (λ (cs : List (List (List ℕ))). profile_number cs texts) profiles-last ∙ ap after_unknown (place-append_front are_same texts (profiles_of commands) _ given)
-
   -- a change of a customer has a combination that was accepted
-  abbrev Combined : Change → Type 0
+  abbrev pub Combined : Change → Type 0
   Combined ch = list_any (λ t. are_same t (picks is_profile (types_in Customer commands) ch.values)) (map pick (described Customer commands)) ≡ true
 
-  abbrev Picked : List DimensionRecord → DimensionRecord → Type 0
+  -- the combination of the record is among those of these
+  abbrev pub Picked : List DimensionRecord → DimensionRecord → Type 0
   Picked rs r = list_any (λ t. are_same t (pick r)) (map pick rs) ≡ true
 
-  picked_in : (rs : List DimensionRecord) → AllByRecursion (Picked rs) rs
+  -- each record of a list has one that is among those of the list
+  pub picked_in : (rs : List DimensionRecord) → AllByRecursion (Picked rs) rs
   picked_in [] = tt
   picked_in (r ∷ rs) = (
     rw ((texts_decide (pick r) (pick r)).1 refl) refl,
     all_weaker (Picked rs) (Picked (r ∷ rs)) (λ q t. rw t (or_true (are_same (pick r) (pick q)))) rs (picked_in rs),
   )
 
-  combined_in : (natural : List ℕ) (rs : List DimensionRecord) → AllByRecursion (Picked (described Customer commands)) rs → AllByRecursion Combined (map (change_of Customer commands) (filter (λ r. bytes_eq r.natural natural) rs))
+  -- the changes of a customer have combinations that were accepted
+  pub combined_in : (natural : List ℕ) (rs : List DimensionRecord) → AllByRecursion (Picked (described Customer commands)) rs → AllByRecursion Combined (map (change_of Customer commands) (filter (λ r. bytes_eq r.natural natural) rs))
   combined_in natural [] all = tt
   combined_in natural (r ∷ rs) all =
       let rest = combined_in natural rs all.1 in
@@ -117,32 +108,46 @@ module _ (commands : List Accepted) (c : Accepted) (batch : governs c.content �
         | false ↦ rest
       ]
 
-  current_stays : (o : Option Change) → IfThere Combined o → current_profile (types_in Customer commands) (profiles_of (commands ++ c ∷ [])) o ≡ current_profile (types_in Customer commands) (profiles_of commands) o
-  current_stays None all = refl
-  current_stays (Some ch) all = ap (λ (o : Option ℕ). unwrap_or o 0) (profile_stays _ (place-distinct_given are_same texts_decide _ (map pick (described Customer commands)) all))
+  module _ (c : Accepted) (batch : governs c.content ≡ false) where
+    -- a batch only adds combinations at the end
+    pub profiles-last : profiles_of (commands ++ c ∷ []) ≡ profiles_of commands ++ fresh are_same (map pick (described Customer commands)) (distinct are_same (map pick (described_by Customer c.content)))
+    profiles-last =
+        ap (λ (kinds : List AttributeType). distinct are_same (map (λ (r : DimensionRecord). picks is_profile kinds r.values) (described Customer (commands ++ c ∷ [])))) (types-last Customer commands c batch)
+        ∙ ap (λ (rs : List DimensionRecord). distinct are_same (map pick rs)) (described-last Customer commands c)
+        ∙ ap (distinct are_same) (map-append pick (described Customer commands) (described_by Customer c.content))
+        ∙ distinct-append are_same (map pick (described Customer commands)) (map pick (described_by Customer c.content))
 
-  -- the profile that a customer's changes before it say of a day has the number that it had
-  pub profile_of_day_stays : (natural : List ℕ) (day : ℕ) → current_profile (types_in Customer commands) (profiles_of (commands ++ c ∷ [])) (at day (dated (changes_of Customer commands natural)))
-      ≡ current_profile (types_in Customer commands) (profiles_of commands) (at day (dated (changes_of Customer commands natural)))
-  profile_of_day_stays natural day =
-      let changes = dated (changes_of Customer commands natural) in
-      let all = all_dated Combined (changes_of Customer commands natural) (combined_in natural (described Customer commands) (picked_in (described Customer commands))) in
-      current_stays (at day changes) (all_at Combined day changes all)
+    -- a number that was given stays
+    pub profile_stays : (texts : List (List ℕ)) → 0 < place are_same texts (profiles_of commands) → profile_number (profiles_of (commands ++ c ∷ [])) texts ≡ profile_number (profiles_of commands) texts
+    profile_stays texts given =
+        ap (λ (cs : List (List (List ℕ))). profile_number cs texts) profiles-last ∙ ap after_unknown (place-append_front are_same texts (profiles_of commands) _ given)
 
-  -- a customer that the batch does not mention keeps its rows
-  pub customer_rows_stay : (natural : List ℕ) → mentions_member Customer c natural ≡ false → member_rows (commands ++ c ∷ []) Customer natural ≡ member_rows commands Customer natural
-  customer_rows_stay natural other =
-      let all = all_newest Combined (dated (changes_of Customer commands natural)) (all_dated Combined (changes_of Customer commands natural) (combined_in natural (described Customer commands) (picked_in (described Customer commands)))) in
-      let number : profile_now (types_in Customer commands) (profiles_of (commands ++ c ∷ [])) (member_of Customer commands natural) ≡ profile_now (types_in Customer commands) (profiles_of commands) (member_of Customer commands natural) =
-      ap (λ (n : ℕ). cond (list_any is_outrigger (types_in Customer commands)) n 0) (current_stays (newest (dated (changes_of Customer commands natural))) all) in
-      ap (λ (kinds : List AttributeType). rows kinds (profiles_of (commands ++ c ∷ [])) (member_of Customer (commands ++ c ∷ []) natural)) (types-last Customer commands c batch)
-      ∙ ap (rows (types_in Customer commands) (profiles_of (commands ++ c ∷ []))) (member-last Customer commands c natural other)
-      ∙ ap (λ (n : ℕ). map (row (types_in Customer commands) n (member_of Customer commands natural)) (spans first_day (starts (types_in Customer commands) (dated (changes_of Customer commands natural))))) number
+    current_stays : (o : Option Change) → IfThere Combined o → current_profile (types_in Customer commands) (profiles_of (commands ++ c ∷ [])) o ≡ current_profile (types_in Customer commands) (profiles_of commands) o
+    current_stays None all = refl
+    current_stays (Some ch) all = ap (λ (o : Option ℕ). unwrap_or o 0) (profile_stays _ (place-distinct_given are_same texts_decide _ (map pick (described Customer commands)) all))
 
-  -- and a member of a dimension whose rows show no profile
-  pub rows_stay : (dim : Dim) (natural : List ℕ) → list_any is_outrigger (types_in dim commands) ≡ false → mentions_member dim c natural ≡ false → member_rows (commands ++ c ∷ []) dim natural ≡ member_rows commands dim natural
-  rows_stay dim natural plain other =
-      let number : profile_now (types_in dim commands) (profiles_of (commands ++ c ∷ [])) (member_of dim commands natural) ≡ profile_now (types_in dim commands) (profiles_of commands) (member_of dim commands natural) = rw plain refl in
-      ap (λ (kinds : List AttributeType). rows kinds (profiles_of (commands ++ c ∷ [])) (member_of dim (commands ++ c ∷ []) natural)) (types-last dim commands c batch)
-      ∙ ap (rows (types_in dim commands) (profiles_of (commands ++ c ∷ []))) (member-last dim commands c natural other)
-      ∙ ap (λ (n : ℕ). map (row (types_in dim commands) n (member_of dim commands natural)) (spans first_day (starts (types_in dim commands) (dated (changes_of dim commands natural))))) number
+    -- the profile that a customer's changes before it say of a day has the number that it had
+    pub profile_of_day_stays : (natural : List ℕ) (day : ℕ) → current_profile (types_in Customer commands) (profiles_of (commands ++ c ∷ [])) (at day (dated (changes_of Customer commands natural)))
+        ≡ current_profile (types_in Customer commands) (profiles_of commands) (at day (dated (changes_of Customer commands natural)))
+    profile_of_day_stays natural day =
+        let changes = dated (changes_of Customer commands natural) in
+        let all = all_dated Combined (changes_of Customer commands natural) (combined_in natural (described Customer commands) (picked_in (described Customer commands))) in
+        current_stays (at day changes) (all_at Combined day changes all)
+
+    -- a customer that the batch does not mention keeps its rows
+    pub customer_rows_stay : (natural : List ℕ) → mentions_member Customer c natural ≡ false → member_rows (commands ++ c ∷ []) Customer natural ≡ member_rows commands Customer natural
+    customer_rows_stay natural other =
+        let all = all_newest Combined (dated (changes_of Customer commands natural)) (all_dated Combined (changes_of Customer commands natural) (combined_in natural (described Customer commands) (picked_in (described Customer commands)))) in
+        let number : profile_now (types_in Customer commands) (profiles_of (commands ++ c ∷ [])) (member_of Customer commands natural) ≡ profile_now (types_in Customer commands) (profiles_of commands) (member_of Customer commands natural) =
+        ap (λ (n : ℕ). cond (list_any is_outrigger (types_in Customer commands)) n 0) (current_stays (newest (dated (changes_of Customer commands natural))) all) in
+        ap (λ (kinds : List AttributeType). rows kinds (profiles_of (commands ++ c ∷ [])) (member_of Customer (commands ++ c ∷ []) natural)) (types-last Customer commands c batch)
+        ∙ ap (rows (types_in Customer commands) (profiles_of (commands ++ c ∷ []))) (member-last Customer commands c natural other)
+        ∙ ap (λ (n : ℕ). map (row (types_in Customer commands) n (member_of Customer commands natural)) (spans first_day (starts (types_in Customer commands) (dated (changes_of Customer commands natural))))) number
+
+    -- and a member of a dimension whose rows show no profile
+    pub rows_stay : (dim : Dim) (natural : List ℕ) → list_any is_outrigger (types_in dim commands) ≡ false → mentions_member dim c natural ≡ false → member_rows (commands ++ c ∷ []) dim natural ≡ member_rows commands dim natural
+    rows_stay dim natural plain other =
+        let number : profile_now (types_in dim commands) (profiles_of (commands ++ c ∷ [])) (member_of dim commands natural) ≡ profile_now (types_in dim commands) (profiles_of commands) (member_of dim commands natural) = rw plain refl in
+        ap (λ (kinds : List AttributeType). rows kinds (profiles_of (commands ++ c ∷ [])) (member_of dim (commands ++ c ∷ []) natural)) (types-last dim commands c batch)
+        ∙ ap (rows (types_in dim commands) (profiles_of (commands ++ c ∷ []))) (member-last dim commands c natural other)
+        ∙ ap (λ (n : ℕ). map (row (types_in dim commands) n (member_of dim commands natural)) (spans first_day (starts (types_in dim commands) (dated (changes_of dim commands natural))))) number

@@ -1,12 +1,12 @@
 -- The place of a member among those that were touched.
-use Rattle.std.proofs.Common.{◌≡◌, ◌+◌, ◌-◌, ◌<◌, ℕ, zero, suc, get_or, replicate, Bool, true, false, cond, not, ◌||◌, List, [], ◌∷◌, ◌++◌, map, length, slice_set, Option, Some, refl, sym, ◌∙◌, ap, arith}
+use Rattle.std.proofs.Common.{◌≡◌, ◌+◌, ◌-◌, ◌<◌, ℕ, zero, suc, get_or, replicate, Bool, true, false, cond, not, ◌||◌, List, [], ◌∷◌, ◌++◌, map, length, slice_set, Some, refl, sym, ◌∙◌, ap, arith}
 use Rattle.std.specs.Prelude.{bytes_eq, find, slice_get, unwrap_or}
 use Rattle.std.specs.List.{list_any, position_or_len}
 use Rattle.std.proofs.lemmas.Slice.Eq.{bytes_eq-Decides}
 use Rattle.wh_policy.specs.declared.record.DimensionRecord.{DimensionRecord}
 use Rattle.wh_history.specs.Touched.{Touched, current, with_stored, with_record, with_member, anchors_with, given_or, grown, touch_member, touch}
 use Rattle.wh_history.specs.declared.member.Member.{Member}
-use Rattle.wh_history.proofs.Basics.{or_none}
+use Rattle.wh_history.proofs.Basics.{or_none, first_or}
 
 bytes_eq-swap : (a b : List ℕ) → bytes_eq a b ≡ bytes_eq b a
 bytes_eq-swap a b =
@@ -43,9 +43,6 @@ module _ {K : Type 0} (text : K → List ℕ) (natural : List ℕ) where
       let test : bytes_eq natural (text k) ≡ bytes_eq m.natural natural = bytes_eq-swap natural (text k) ∙ ap (λ n. bytes_eq n natural) here in
       rw (test, rest) refl
 
-abbrev some_or : Bool → Member → Option Member → Option Member
-some_or b m other = cond b (Some m) other
-
 module _ (stored : List ℕ → Member) (natural : List ℕ) where
   abbrev is : Member → Bool
   is m = bytes_eq m.natural natural
@@ -57,7 +54,7 @@ module _ (stored : List ℕ → Member) (natural : List ℕ) where
   pub current_natural : (list : List Member) → list_any (λ m. bytes_eq m.natural natural) list ≡ true → (current stored list natural).natural ≡ natural
   current_natural [] h = cc
   current_natural (t ∷ ts) h =
-      elim (bytes_eq t.natural natural) as (λ b. (bytes_eq t.natural natural ≡ b) → (b || list_any is ts) ≡ true → (unwrap_or (some_or b t (find is ts)) (stored natural)).natural ≡ natural) [
+      elim (bytes_eq t.natural natural) as (λ b. (bytes_eq t.natural natural ≡ b) → (b || list_any is ts) ≡ true → (unwrap_or (first_or b t (find is ts)) (stored natural)).natural ≡ natural) [
         | true ↦ λ e _. (bytes_eq-Decides t.natural natural).0 e
         | false ↦ λ e later. current_natural ts later
       ] refl h
@@ -80,7 +77,7 @@ module _ (stored : List ℕ → Member) (natural : List ℕ) where
   placed [] = refl
   placed (t ∷ ts) =
       let rest = placed ts in
-      elim (bytes_eq t.natural natural) as (λ b. slice_get (cond (b || list_any is ts) (t ∷ ts) (t ∷ (ts ++ stored natural ∷ []))) (cond (not b) (1 + Index ts) 0) ≡ Some (unwrap_or (some_or b t (find is ts)) (stored natural))) [
+      elim (bytes_eq t.natural natural) as (λ b. slice_get (cond (b || list_any is ts) (t ∷ ts) (t ∷ (ts ++ stored natural ∷ []))) (cond (not b) (1 + Index ts) 0) ≡ Some (unwrap_or (first_or b t (find is ts)) (stored natural))) [
         | true ↦ refl
         | false ↦ ap (slice_get (cond (list_any is ts) (t ∷ ts) (t ∷ (ts ++ stored natural ∷ [])))) (one_more (Index ts)) ∙ ap (λ us. slice_get us (suc (Index ts))) (commuted (list_any is ts) t (stored natural) ts) ∙ rest
       ]

@@ -1,6 +1,6 @@
 -- The table of a trial, by the members of its records.
-use Rattle.std.proofs.Common.{◌≡◌, ℕ, zero, suc, ◌+◌, ◌<◌, Bool, true, false, cond, not, List, [], ◌∷◌, ◌++◌, map, length, Option, Some, None, refl, sym, ◌∙◌, ap, arith, append-nil, length-append}
-use Rattle.std.specs.Prelude.{filter, filter_map, flat_map, bytes_eq, slice_get}
+use Rattle.std.proofs.Common.{◌≡◌, ℕ, zero, suc, ◌+◌, ◌<◌, true, not, List, [], ◌∷◌, ◌++◌, map, length, Option, Some, None, refl, sym, ◌∙◌, ap, arith, append-nil, length-append}
+use Rattle.std.specs.Prelude.{filter_map, flat_map, bytes_eq, slice_get}
 use Rattle.std.specs.Option.{option_and_then}
 use Rattle.std.specs.List.{range_with_len, cons_option, AllByRecursion}
 use Rattle.std.proofs.lemmas.List.{append_assoc}
@@ -28,6 +28,7 @@ use Rattle.wh_history.proofs.Members.{row_of_member_now}
 use Rattle.wh_history.proofs.Effective.{in_table}
 use Rattle.wh_history.proofs.Owners.{owners_given}
 use Rattle.wh_history.proofs.Batches.{mentions_after, touched_is}
+use Rattle.wh_history.proofs.Lists.{filter_twice}
 
 -- each natural key twice, as a record mentions it by its opening and by its day
 abbrev twice : List (List ℕ) → List (List ℕ)
@@ -38,24 +39,16 @@ mentioned_twice : (rs : List DimensionRecord) → map (λ (a : Anchor). a.natura
 mentioned_twice [] = refl
 mentioned_twice (r ∷ rs) = ap (λ ns. r.natural ∷ r.natural ∷ ns) (mentioned_twice rs)
 
-filter_again : {X : Type 0} (p : X → Bool) (xs : List X) → filter p (filter p xs) ≡ filter p xs
-filter_again p [] = refl
-filter_again p (x ∷ xs) =
-    let rest = filter_again p xs in
-    elim (p x) as (λ b. (p x ≡ b) → filter p (cond b (x ∷ filter p xs) (filter p xs)) ≡ cond b (x ∷ filter p xs) (filter p xs)) [
-      | true ↦ λ e. rw (e, rest) refl
-      | false ↦ λ e. rest
-    ] refl
-
 distinct_twice : (ns : List (List ℕ)) → distinct bytes_eq (twice ns) ≡ distinct bytes_eq ns
 distinct_twice [] = refl
 distinct_twice (n ∷ ns) =
     let rest = distinct_twice ns in
     let itself : bytes_eq n n ≡ true = (bytes_eq-Decides n n).1 refl in
     let other = λ (m : List ℕ). not (bytes_eq n m) in
-    rw (rest, itself) (ap (λ ms. n ∷ ms) (filter_again other (distinct bytes_eq ns)))
+    rw (rest, itself) (ap (λ ms. n ∷ ms) (filter_twice other (distinct bytes_eq ns)))
 
-at_place-map : {X Y : Type 0} (f : X → Y) (n : ℕ) (xs : List X) (x : X) → at_place n xs ≡ Some x → at_place n (map f xs) ≡ Some (f x)
+-- what stands at a place stands there in a list of what is made of each
+pub at_place-map : {X Y : Type 0} (f : X → Y) (n : ℕ) (xs : List X) (x : X) → at_place n xs ≡ Some x → at_place n (map f xs) ≡ Some (f x)
 at_place-map f zero xs x is = cc
 at_place-map f (suc zero) [] x is = cc
 at_place-map f (suc zero) (y ∷ ys) x is = let here : y ≡ x = cc in ap (λ z. Some (f z)) here

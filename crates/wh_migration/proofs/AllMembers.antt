@@ -16,9 +16,10 @@ use Rattle.wh_history.proofs.Once.{once_distinct}
 use Rattle.wh_rows.specs.declared.rows.MemberRow.{MemberRow}
 use Rattle.wh_model.specs.Defined.{member_at}
 use Rattle.wh_migration.specs.Migrated.{all_members}
-use Rattle.wh_plan.proofs.FoundMembers.{key_of, natural_at, member_is}
+use Rattle.wh_plan.proofs.FoundMembers.{natural_at, member_is}
 use Rattle.wh_model.proofs.FoundPlaces.{place_given, place_at}
 use Rattle.wh_model.proofs.GovernedLists.{members_governed, member_governed, policy_governed}
+use Rattle.wh_model.proofs.GrownMembers.{key_of}
 
 module _ (dim : Dim) (commands : List Accepted) where
   module _ (durable : ℕ) (row : MemberRow) (is : member_at commands (key_of dim durable) ≡ Some row) where

@@ -47,9 +47,10 @@ use Rattle.wh_model.proofs.GovernedLists.{sold_governed, durable_governed}
 use Rattle.wh_model.proofs.GrownChanges.{natural_among}
 use Rattle.wh_plan.proofs.GrownFacts.{own_line, Once, found_each}
 use Rattle.wh_model.proofs.GrownKeys.{all_at}
-use Rattle.wh_plan.proofs.MovedFacts.{on_line, facts_of_line}
+use Rattle.wh_plan.proofs.MovedFacts.{facts_of_line}
 use Rattle.wh_model.proofs.MovedKeys.{with_keys, moved_gives, moved_has, moved_is_other, at_found}
 use Rattle.wh_model.proofs.QuietLists.{policy_quiet}
+use Rattle.wh_model.proofs.WholeFacts.{on_line}
 use Rattle.wh_plan.proofs.MovedLists.{find_by_filter, distinct_by_filter, filter_moves, moves_of_one}
 use Rattle.wh_migration.proofs.AllRows.{row_shown}
 use Rattle.wh_plan.proofs.SaleBatches.SalesKeys.{fact_keyed}

@@ -36,7 +36,8 @@ within policy day has =
     let (is, first) = and_parts (is_day day) (leb policy.years.first (year_of day)) first_part in
     record { is = is; from = leb-true _ _ first; to = leb-true _ _ last }
 
-keyed : (policy : Policy) (day : ℕ) (found : DateRow) → day_at policy day ≡ Some found → row.calendar.key found ≡ day
+-- the row of a day is found under its number
+pub keyed : (policy : Policy) (day : ℕ) (found : DateRow) → day_at policy day ≡ Some found → row.calendar.key found ≡ day
 unfolding calendar_row
 keyed policy day found is =
     elim (cases_Bool (has_day policy day)) [

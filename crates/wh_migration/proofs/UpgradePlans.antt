@@ -7,6 +7,7 @@ use Rattle.std.specs.List.{AllByRecursion}
 use Rattle.std.specs.Ordering.{eq_by_cmp}
 use Rattle.std.proofs.lemmas.Cmp.{nat_cmp_total}
 use Rattle.std.proofs.lemmas.Slice.Eq.{bytes_eq-Decides}
+use Rattle.std.proofs.lemmas.Map.Made.{option_or-none}
 use Rattle.wh_policy.specs.Formats.{same_format}
 use Rattle.wh_policy.specs.declared.attribute.Dim.{Dim}
 use Rattle.wh_policy.specs.declared.attribute.Dim.TheVariants.{Product, Store, Customer}
@@ -33,7 +34,7 @@ use Rattle.wh_model.proofs.UpgradedRows.{quiet, no_policy, upgraded, fact_same, 
 use Rattle.wh_plan.specs.BatchRows.{AreFacts, has_line}
 use Rattle.wh_plan.specs.Edits.{AreEdits, IsTablePlan, IsFactPlan, rows_of_dimension}
 use Rattle.wh_plan.specs.declared.edits.FactEdit.{FactEdit}
-use Rattle.wh_plan.proofs.GrownFacts.{own_line, or_none}
+use Rattle.wh_plan.proofs.GrownFacts.{own_line}
 use Rattle.wh_plan.proofs.MovedFacts.{facts_of_line}
 use Rattle.wh_plan.proofs.MovedLists.{find_by_filter, distinct_by_filter}
 use Rattle.wh_plan.proofs.OwnRow.{own_row_plan}
@@ -95,7 +96,7 @@ module _ (limits : Limits) (commands : List Accepted) (c : Accepted) (t : Tables
 
   pub carried : AreFacts (λ _. None) (fact_at commands) (values t.fact)
   carried = record {
-    lead = λ line. or_none (find (has_line line) (values t.fact)) ∙ find_by_filter (has_line line) (values t.fact) (fact_at commands line) (of_line line);
+    lead = λ line. option_or-none (find (has_line line) (values t.fact)) ∙ find_by_filter (has_line line) (values t.fact) (fact_at commands line) (of_line line);
     needed = all_new (values t.fact);
     once = distinct_by_filter (λ f. has_line (row.fact.key f)) own_line (values t.fact) (λ f. (fact_at commands (row.fact.key f), of_line (row.fact.key f)));
   }

@@ -52,9 +52,10 @@ tied k j =
       ] refl
     ] refl
 
-none_of : {X : Type 0} (o : Option X) → is_some o ≡ false → o ≡ None
-none_of None h = refl
-none_of (Some x) h = absurd cc
+-- what is not there is none
+pub is_absent : {X : Type 0} (o : Option X) → is_some o ≡ false → o ≡ None
+is_absent None h = refl
+is_absent (Some x) h = absurd cc
 
 none_tied : (k : LineKey) (keys : List LineKey) → AllByRecursion (λ j. eq_by_cmp row.line_cmp k j ≡ false) keys → list_any (eq_by_cmp row.line_cmp k) keys ≡ false
 none_tied k [] all = refl
@@ -65,7 +66,7 @@ module _ {V : Type 0} where
   keys_counted : (keys : List LineKey) (m : FinMap row.line_cmp V) → IsDistinct (eq_by_cmp row.line_cmp) keys → ((k : LineKey) → is_some (get m k) ≡ list_any (eq_by_cmp row.line_cmp k) keys) → len m ≡ length keys
   unfolding IsDistinct
   keys_counted [] m once shows =
-      ap len (same_map line_cmp_total line_cmp-IsAntisymmetric m empty (λ k. none_of (get m k) (shows k) ∙ sym (get-empty row.line_cmp k))) ∙ len-empty row.line_cmp V
+      ap len (same_map line_cmp_total line_cmp-IsAntisymmetric m empty (λ k. is_absent (get m k) (shows k) ∙ sym (get-empty row.line_cmp k))) ∙ len-empty row.line_cmp V
   keys_counted (k ∷ keys) m once shows =
       let there : is_some (get m k) ≡ true = shows k ∙ ap (λ b. b || list_any (eq_by_cmp row.line_cmp k) keys) ((eq_by_cmp_equiv line_cmp_total).refl k) in
       let rest = keys_counted keys (remove m k) once.1 left in

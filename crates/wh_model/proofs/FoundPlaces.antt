@@ -1,15 +1,15 @@
 -- What stands at a place of a list, and tests of equality.
-use Rattle.std.proofs.Common.{◌≡◌, ℕ, zero, suc, ◌<◌, Bool, true, false, cond, ◌||◌, List, [], ◌∷◌, map, length, Some, None, refl, sym, ◌∙◌, ap, arith, Equal}
+use Rattle.std.proofs.Common.{◌≡◌, ℕ, zero, suc, ◌<◌, Bool, true, false, cond, ◌||◌, List, [], ◌∷◌, map, length, Some, refl, sym, ◌∙◌, ap, arith, Equal}
 use Rattle.std.specs.Prelude.{option_map}
 use Rattle.std.specs.Bool.{Decides}
-use Rattle.std.specs.List.{list_any, AllByRecursion, IsDistinct}
+use Rattle.std.specs.List.{list_any, IsDistinct}
 use Rattle.std.specs.Ordering.{eq_by_cmp, nat_cmp}
 use Rattle.std.specs.Cmp.{eq_by_cmp_equiv}
 use Rattle.std.specs.Cmp.Lexicographic.{slice_cmp, nat_list_cmp_total}
 use Rattle.std.proofs.lemmas.Cmp.{nat_cmp_total}
 use Rattle.std.specs.FinMap.{nat_cmp-IsAntisymmetric}
 use Rattle.wh_history.specs.Keys.{place, at_place, after_one}
-use Rattle.wh_history.proofs.Once.{IsOnce, apart}
+use Rattle.wh_history.proofs.Once.{IsOnce, none_same}
 use Rattle.wh_rows.proofs.Orders.{text_cmp-IsAntisymmetric}
 use Rattle.wh_model.proofs.Listed.{equal_is}
 
@@ -38,13 +38,6 @@ at_place-map f (suc zero) [] = refl
 at_place-map f (suc zero) (x ∷ xs) = refl
 at_place-map f (suc (suc n)) [] = refl
 at_place-map f (suc (suc n)) (x ∷ xs) = at_place-map f (suc n) xs
-
--- nothing stands past the end
-pub at_place_past : {X : Type 0} (n : ℕ) (xs : List X) → length xs < n → at_place n xs ≡ None
-at_place_past zero xs h = refl
-at_place_past (suc n) [] h = refl
-at_place_past (suc zero) (x ∷ xs) h = absurd (omega arith)
-at_place_past (suc (suc n)) (x ∷ xs) h = at_place_past (suc n) xs (omega arith)
 
 -- up to the end something does
 pub at_place_there : {X : Type 0} (n : ℕ) (xs : List X) → 0 < n → n < suc (length xs) → (x : X) × (at_place n xs ≡ Some x)
@@ -89,11 +82,7 @@ module _ {X : Type 0} (same : X → X → Bool) (decides : (x y : X) → Decides
         | false ↦ λ e. ap after_one rest
       ] refl
 
-  not_later : (x : X) (ys : List X) → AllByRecursion (λ y. same x y ≡ false) ys → list_any (λ y. same y x) ys ≡ false
-  not_later x [] all = refl
-  not_later x (y ∷ ys) all = rw (apart same decides x y all.0, not_later x ys all.1) refl
-
   pub once_is : (xs : List X) → IsDistinct same xs → IsOnce same decides xs
   unfolding IsDistinct
   once_is [] apart_all = tt
-  once_is (x ∷ xs) apart_all = (not_later x xs apart_all.0, once_is xs apart_all.1)
+  once_is (x ∷ xs) apart_all = (none_same same decides x xs apart_all.0, once_is xs apart_all.1)

@@ -15,6 +15,7 @@ use Rattle.wh_history.proofs.Batches.{same_dimension}
 use Rattle.wh_history.proofs.Growth.{durable_stays, surrogate_stays}
 use Rattle.wh_history.proofs.Joins.{Told, told_in_all}
 use Rattle.wh_history.proofs.Places.{anchors_decide, place-distinct_given}
+use Rattle.wh_history.proofs.Lists.{all_apart}
 use Rattle.wh_rows.specs.declared.rows.ChangeRow.{ChangeRow}
 use Rattle.wh_rows.specs.declared.key.ChangeKey.{ChangeKey}
 use Rattle.wh_rows.specs.Rows as row
@@ -27,11 +28,6 @@ keyed_row key c = record { command = key.command; place = key.place; dim = c.dim
 
 pub change_keyed : (commands : List Accepted) (k : ChangeKey) (v : ChangeRow) → change_at commands k ≡ Some v → row.change.key v ≡ k
 change_keyed commands k v is = keyed_map row.change.key k (keyed_row k) (λ _. refl) (change_row commands k.command k.place) v is
-
--- what holds of each part's elements
-pub all_apart : {X : Type 0} (P : X → Type 0) (xs ys : List X) → AllByRecursion P (xs ++ ys) → AllByRecursion P xs × AllByRecursion P ys
-all_apart P [] ys all = (tt, all)
-all_apart P (x ∷ xs) ys all = let rest = all_apart P xs ys all.1 in ((all.0, rest.0), rest.1)
 
 all_parts : {X Y : Type 0} (P : Y → Type 0) (f : X → List Y) (xs : List X) → AllByRecursion P (flat_map f xs) → AllByRecursion (λ x. AllByRecursion P (f x)) xs
 all_parts P f [] all = tt

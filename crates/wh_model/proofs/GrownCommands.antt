@@ -15,6 +15,14 @@ use Rattle.wh_model.proofs.GrownKeys.{at_front, at_past, map_same, keyed_map, gr
 pub command_keyed : (commands : List Accepted) (k : ℕ) (v : CommandRow) → command_at commands k ≡ Some v → row.command.key v ≡ k
 command_keyed commands k v is = keyed_map row.command.key k (λ (c : history.CommandRow). record { number = k; id = c.id; kind = c.kind; bytes = c.bytes; records = c.records; placeholders = c.placeholders }) (λ _. refl) (command_row commands k) v is
 
+-- what the row of a command says, among these commands and under this number
+abbrev pub row_with : List Accepted → ℕ → Accepted → history.CommandRow
+row_with list n d = record { id = d.id; kind = d.kind; bytes = d.bytes; records = records_by d.content; placeholders = placeholders_by list n d.content }
+
+-- the row under its number
+abbrev pub placed : ℕ → history.CommandRow → CommandRow
+placed n r = record { number = n; id = r.id; kind = r.kind; bytes = r.bytes; records = r.records; placeholders = r.placeholders }
+
 module _ (commands : List Accepted) (c : Accepted) where
   abbrev after : List Accepted
   after = commands ++ c ∷ []
@@ -29,12 +37,6 @@ module _ (commands : List Accepted) (c : Accepted) where
       let here = take-append-le n commands (c ∷ []) h in
       let before = take-append-le (n - 1) commands (c ∷ []) (omega arith) in
       rw (here, before) refl
-
-  abbrev row_with : List Accepted → ℕ → Accepted → history.CommandRow
-  row_with list n d = record { id = d.id; kind = d.kind; bytes = d.bytes; records = records_by d.content; placeholders = placeholders_by list n d.content }
-
-  abbrev placed : ℕ → history.CommandRow → CommandRow
-  placed n r = record { number = n; id = r.id; kind = r.kind; bytes = r.bytes; records = r.records; placeholders = r.placeholders }
 
   row_stays : (n : ℕ) → n ≤ length commands → command_row after n ≡ command_row commands n
   row_stays n h =

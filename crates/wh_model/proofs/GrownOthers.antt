@@ -1,21 +1,19 @@
 -- What a batch of one dimension leaves as it was.
-use Rattle.std.proofs.Common.{◌≡◌, ℕ, zero, suc, ◌==◌, true, false, ◌&&◌, List, [], ◌∷◌, ◌++◌, Option, Some, refl, sym, ◌∙◌, ap, append-nil}
-use Rattle.std.specs.Prelude.{find, bytes_eq, option_map}
+use Rattle.std.proofs.Common.{◌≡◌, ℕ, zero, suc, ◌==◌, true, false, List, [], ◌∷◌, ◌++◌, Some, refl, sym, ◌∙◌, ap, append-nil}
+use Rattle.std.specs.Prelude.{find, bytes_eq}
 use Rattle.std.specs.Option.{option_and_then}
 use Rattle.std.specs.List.{list_any}
 use Rattle.std.proofs.lemmas.Grind.{flat_map-append}
 use Rattle.wh_policy.specs.declared.attribute.Dim.{Dim}
 use Rattle.wh_policy.specs.declared.attribute.Dim.TheVariants.{Product, Store, Customer}
 use Rattle.wh_policy.specs.declared.record.DimensionRecord.{DimensionRecord}
-use Rattle.wh_policy.specs.declared.record.SaleRecord.{SaleRecord}
 use Rattle.wh_history.specs.Keys.{at_place, distinct}
 use Rattle.wh_history.specs.Accepted.{Accepted, Describes, Anchor, same_anchor, same_dim, anchors_by, described_by, mentions, described, anchors, types_in, profiles_of, member_of, sold, sold_by, withdrawn, standing_but, standing}
 use Rattle.wh_history.specs.Laws.{governs, mentions_member}
 use Rattle.wh_history.specs.Profiles.{combinations_of}
 use Rattle.wh_history.specs.Rows.{rows}
-use Rattle.wh_history.specs.Tables.{member_rows, numbered_row, dimension_row, no_card_row, fact_of}
+use Rattle.wh_history.specs.Tables.{member_rows, numbered_row, dimension_row, no_card_row}
 use Rattle.wh_history.specs.declared.rows.DimRow.{DimRow}
-use Rattle.wh_history.specs.declared.facts.Fact.{Fact}
 use Rattle.wh_history.proofs.Batches.{member_same}
 use Rattle.wh_history.proofs.Stays.{types-last, rows_stay}
 use Rattle.wh_history.proofs.Untouched.{mentions-last, described-last}
@@ -23,6 +21,7 @@ use Rattle.wh_model.specs.Defined.{fact_at}
 use Rattle.wh_rows.specs.declared.key.LineKey.{LineKey}
 use Rattle.wh_model.specs.Laws.{ShowsNoProfile}
 use Rattle.wh_model.proofs.GrownKeys.{then_same}
+use Rattle.wh_model.proofs.StandingFacts.{fact_among}
 
 pub same_dim_is : (a b : Dim) → same_dim a b ≡ true → a ≡ b
 same_dim_is Product Product h = refl
@@ -105,9 +104,6 @@ module _ (dim : Dim) (commands : List Accepted) (c : Accepted) (rs : List Dimens
 
   stands_nothing : (list : List Accepted) → sold list ≡ [] → standing list ≡ []
   stands_nothing list none = ap (standing_but (withdrawn list)) none
-
-  abbrev fact_among : List Accepted → List SaleRecord → LineKey → Option Fact
-  fact_among list sales key = option_map (fact_of list) (find (λ s. bytes_eq s.ticket key.ticket && (s.line == key.line)) sales)
 
   pub no_fact : sold commands ≡ [] → (key : LineKey) → fact_at after key ≡ fact_at commands key
   no_fact none key = ap (λ ss. fact_among after ss key) (stands_nothing after (sold_nothing none)) ∙ sym (ap (λ ss. fact_among commands ss key) (stands_nothing commands none))

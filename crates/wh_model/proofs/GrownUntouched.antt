@@ -65,6 +65,10 @@ mentioned_in (m ∷ ms) = (
   all_weaker (Mentioned ms) (Mentioned (m ∷ ms)) (λ a t. rw t (or_true (bytes_eq m.natural a.natural))) ms (mentioned_in ms),
 )
 
+-- the row of a member under a surrogate key
+abbrev pub row_in : Dim → List Accepted → ℕ → Anchor → Option DimRow
+row_in dim list key a = find (λ (q : DimRow). q.surrogate == key) (member_rows list dim a.natural)
+
 module _ (dim : Dim) (commands : List Accepted) (c : Accepted) (natural : List ℕ) (other : mentions_member dim c natural ≡ false) (stay : member_rows (commands ++ c ∷ []) dim natural ≡ member_rows commands dim natural) where
   abbrev after : List Accepted
   after = commands ++ c ∷ []
@@ -77,11 +81,8 @@ module _ (dim : Dim) (commands : List Accepted) (c : Accepted) (natural : List �
       let all : AllByRecursion here (anchors_by dim c.content ++ []) = rw (append-nil (anchors_by dim c.content)) (mentioned_in (anchors_by dim c.content)) in
       all_fresh here same_anchor (mentions dim commands) (anchors dim (c ∷ [])) (all_distinct here same_anchor (mentions dim (c ∷ [])) all)
 
-  abbrev row_in : List Accepted → ℕ → Anchor → Option DimRow
-  row_in list key a = find (λ (q : DimRow). q.surrogate == key) (member_rows list dim a.natural)
-
   -- the row that an anchor of the member has under a key
-  row_stays : (key : ℕ) (a : Anchor) → a.natural ≡ natural → row_in after key a ≡ row_in commands key a
+  row_stays : (key : ℕ) (a : Anchor) → a.natural ≡ natural → row_in dim after key a ≡ row_in dim commands key a
   row_stays key a same =
       let rows_of = λ (list : List Accepted) (n : List ℕ). find (λ (q : DimRow). q.surrogate == key) (member_rows list dim n) in
       ap (rows_of after) same ∙ ap (find (λ (q : DimRow). q.surrogate == key)) stay ∙ sym (ap (rows_of commands) same)
@@ -92,7 +93,7 @@ module _ (dim : Dim) (commands : List Accepted) (c : Accepted) (natural : List �
       let a : Anchor = from.0 in
       let same : a.natural ≡ natural = sym (named_by dim commands a.natural (λ (q : DimRow). q.surrogate == key) r from.2) ∙ mine in
       let there : at_place key (anchors dim after) ≡ Some a = ap (at_place key) (anchors-append dim commands (c ∷ [])) ∙ at_more key (anchors dim commands) _ a from.1 in
-      ap (option_and_then (row_in after key)) there ∙ row_stays key a same ∙ from.2
+      ap (option_and_then (row_in dim after key)) there ∙ row_stays key a same ∙ from.2
 
   was_there : (key : ℕ) (r : DimRow) → r.natural ≡ natural → numbered_row after dim key ≡ Some r → numbered_row commands dim key ≡ Some r
   was_there key r mine is =
@@ -101,7 +102,7 @@ module _ (dim : Dim) (commands : List Accepted) (c : Accepted) (natural : List �
       let same : a.natural ≡ natural = sym (named_by dim after a.natural (λ (q : DimRow). q.surrogate == key) r from.2) ∙ mine in
       let unmentioned : here a → ⊥ = λ t. let f : mentions_member dim c a.natural ≡ false = ap (mentions_member dim c) same ∙ other in cc in
       let there : at_place key (anchors dim commands) ≡ Some a = at_less here key (anchors dim commands) _ a new_mentioned unmentioned (sym (ap (at_place key) (anchors-append dim commands (c ∷ []))) ∙ from.1) in
-      ap (option_and_then (row_in commands key)) there ∙ sym (row_stays key a same) ∙ from.2
+      ap (option_and_then (row_in dim commands key)) there ∙ sym (row_stays key a same) ∙ from.2
 
 rows_kept : (dim : Dim) (commands : List Accepted) (c : Accepted) (natural : List ℕ) → governs c.content ≡ false → (dim ≢ Customer → ShowsNoProfile commands dim) → mentions_member dim c natural ≡ false → member_rows (commands ++ c ∷ []) dim natural ≡ member_rows commands dim natural
 rows_kept Product commands c natural batch plain other = rows_stay commands c batch Product natural (plain (λ e. cc)) other

@@ -12,6 +12,7 @@ use Rattle.std.specs.Cmp.{IsTotalOrder, eq_by_cmp_equiv}
 use Rattle.std.specs.FinMap.{FinMap, entries, values, get, len, find, is_sorted, IsAntisymmetric, nat_cmp-IsAntisymmetric, entries_sorted, get-entries, len-entries}
 use Rattle.std.specs.FinMap.Entries.{below_all, same_entries}
 use Rattle.wh_rows.proofs.Maps.{both_hold, both_true, less_is}
+use Rattle.wh_rows.proofs.Edits.{filter_all}
 
 pub equal_is : (o : Ordering) → is_eq o ≡ true → o ≡ Equal
 equal_is Ordering.Less h = absurd (cc)
@@ -161,10 +162,6 @@ module _ {K V : Type 0} (R : K → K → Ordering) (total : IsTotalOrder R) (sam
 
       pub filter-values : Ascends R key rows → filter keep (values m) ≡ rows
       filter-values up = filter-values_find (sorted_keyed R key rows up) (λ k. agrees k (find R k (keyed key rows)) (get m k) refl refl)
-
-pub filter_all : {V : Type 0} (rows : List V) → filter (λ _. true) rows ≡ rows
-filter_all [] = refl
-filter_all (v ∷ rows) = ap (λ l. v ∷ l) (filter_all rows)
 
 length_rows : {K V : Type 0} (es : List (K × V)) → length es ≡ length (map (λ (e : K × V). e.1) es)
 length_rows [] = refl

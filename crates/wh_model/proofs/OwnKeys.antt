@@ -2,13 +2,14 @@
 use Rattle.std.proofs.Common.{◌≡◌, ℕ, zero, suc, Bool, true, false, List, [], ◌∷◌, map, Some, refl, sym, ap, ◌∙◌}
 use Rattle.std.specs.Prelude.{slice_get, bytes_eq}
 use Rattle.std.specs.Bool.{Decides}
-use Rattle.std.specs.List.{AllByRecursion, list_any, IsDistinct}
+use Rattle.std.specs.List.{list_any, IsDistinct}
 use Rattle.std.proofs.lemmas.Slice.Eq.{bytes_eq-Decides}
 use Rattle.wh_history.specs.Keys.{at_place}
 use Rattle.wh_history.specs.Accepted.{Accepted, Anchor, opening_of, mentions, members, surrogate_key, records_by, placeholders_by}
 use Rattle.wh_history.specs.Tables as history
 use Rattle.wh_history.proofs.Basics.{or_true, some_is}
-use Rattle.wh_history.proofs.Once.{IsOnce, apart, once_distinct}
+use Rattle.wh_history.proofs.Once.{IsOnce, once_distinct, none_same}
+use Rattle.wh_history.proofs.Trials.{at_place-map}
 use Rattle.wh_rows.specs.declared.rows.CommandRow.{CommandRow}
 use Rattle.wh_rows.specs.declared.rows.MemberRow.{MemberRow}
 use Rattle.wh_rows.specs.declared.key.MemberKey.{MemberKey}
@@ -45,23 +46,10 @@ module _ {X : Type 0} (same : X → X → Bool) (decides : (x y : X) → Decides
   one_at (suc n) zero xs x once left right = absurd (cc)
   one_at (suc n) (suc m) xs x once left right = ap suc (one_get n m xs x once left right)
 
-  none_same : (x : X) (ys : List X) → AllByRecursion (λ y. same x y ≡ false) ys → list_any (λ y. same y x) ys ≡ false
-  none_same x [] all = refl
-  none_same x (y ∷ ys) all = rw (apart same decides x y all.0, none_same x ys all.1) refl
-
   distinct_once : (xs : List X) → IsDistinct same xs → Once xs
   unfolding IsDistinct
   distinct_once [] distinct = tt
-  distinct_once (x ∷ xs) distinct = (none_same x xs distinct.0, distinct_once xs distinct.1)
-
-get_mapped : {X Y : Type 0} (f : X → Y) (n : ℕ) (xs : List X) (x : X) → slice_get xs n ≡ Some x → slice_get (map f xs) n ≡ Some (f x)
-get_mapped f n [] x is = absurd (cc)
-get_mapped f zero (y ∷ ys) x is = ap (λ o. Some (f o)) (some_is y x is)
-get_mapped f (suc n) (y ∷ ys) x is = get_mapped f n ys x is
-
-at_mapped : {X Y : Type 0} (f : X → Y) (n : ℕ) (xs : List X) (x : X) → at_place n xs ≡ Some x → at_place n (map f xs) ≡ Some (f x)
-at_mapped f zero xs x is = absurd (cc)
-at_mapped f (suc n) xs x is = get_mapped f n xs x is
+  distinct_once (x ∷ xs) distinct = (none_same same decides x xs distinct.0, distinct_once xs distinct.1)
 
 -- ---- commands
 
@@ -74,7 +62,7 @@ module _ (commands : List Accepted) where
       let outer = made_of (λ (c : history.CommandRow). record { number = number; id = c.id; kind = c.kind; bytes = c.bytes; records = c.records; placeholders = c.placeholders }) (history.command_row commands number) v is in
       let inner = made_of (λ (c : Accepted). record { id = c.id; kind = c.kind; bytes = c.bytes; records = records_by c.content; placeholders = placeholders_by commands number c.content }) (at_place number commands) outer.0 outer.1 in
       let own : v.id ≡ inner.0.id = ap (λ (q : CommandRow). q.id) outer.2 ∙ ap (λ (q : history.CommandRow). q.id) inner.2 in
-      at_mapped (λ (c : Accepted). c.id) number commands inner.0 inner.1 ∙ ap Some (sym own)
+      at_place-map (λ (c : Accepted). c.id) number commands inner.0 inner.1 ∙ ap Some (sym own)
 
   own_id : IsDistinct bytes_eq ids → (a b : ℕ) (v w : CommandRow) → command_at commands a ≡ Some v → command_at commands b ≡ Some w → v.id ≡ w.id → a ≡ b
   own_id distinct a b v w at_a at_b same =

@@ -25,6 +25,27 @@ use Rattle.wh_model.proofs.GrownChanges.{brings_none}
 use Rattle.wh_model.proofs.GrownMembers as member
 use Rattle.wh_model.proofs.QuietLists.{IsQuiet, unchanged, described_quiet, anchors_quiet, members_quiet, durable_quiet, member_quiet}
 
+-- the fact of a sale with this customer
+abbrev pub sold_to : List Accepted → SaleRecord → Option (List ℕ) → Fact
+sold_to list s o = record {
+  ticket = s.ticket;
+  line = s.line;
+  day = s.day;
+  keys = record {
+    store_key = key_at list Store s.day s.store;
+    product_key = key_at list Product s.day s.product;
+    customer_key = unwrap_or (option_map (key_at list Customer s.day) o) 0;
+    profile = unwrap_or (option_map (history.profile_at list s.day) o) 0;
+  };
+  store_durable = durable_key Store list s.store;
+  product_durable = durable_key Product list s.product;
+  customer_durable = unwrap_or (option_map (durable_key Customer list) o) 0;
+  quantity = s.quantity;
+  amount = s.amount;
+  cost = s.cost;
+  discount = s.discount;
+}
+
 module _ (commands : List Accepted) (c : Accepted) (quiet : IsQuiet c.content) (no_policy : governs c.content ≡ false) where
   abbrev after : List Accepted
   after = commands ++ c ∷ []
@@ -71,27 +92,6 @@ module _ (commands : List Accepted) (c : Accepted) (quiet : IsQuiet c.content) (
 
   pub calendar_same : (day : ℕ) → calendar_at (commands ++ c ∷ []) day ≡ calendar_at commands day
   calendar_same day = ap (option_and_then (λ policy. day_at policy day)) (policy_last None commands c no_policy)
-
-  -- the fact of a sale with this customer
-  abbrev sold_to : List Accepted → SaleRecord → Option (List ℕ) → Fact
-  sold_to list s o = record {
-    ticket = s.ticket;
-    line = s.line;
-    day = s.day;
-    keys = record {
-      store_key = key_at list Store s.day s.store;
-      product_key = key_at list Product s.day s.product;
-      customer_key = unwrap_or (option_map (key_at list Customer s.day) o) 0;
-      profile = unwrap_or (option_map (history.profile_at list s.day) o) 0;
-    };
-    store_durable = durable_key Store list s.store;
-    product_durable = durable_key Product list s.product;
-    customer_durable = unwrap_or (option_map (durable_key Customer list) o) 0;
-    quantity = s.quantity;
-    amount = s.amount;
-    cost = s.cost;
-    discount = s.discount;
-  }
 
   sale_same : (s : SaleRecord) (o : Option (List ℕ)) → sold_to after s o ≡ sold_to commands s o
   sale_same s None = λ i. record {

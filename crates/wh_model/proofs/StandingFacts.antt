@@ -12,7 +12,7 @@ use Rattle.wh_rows.specs.declared.rows.VoidRow.{VoidRow}
 use Rattle.wh_model.specs.Defined.{fact_at, void_at}
 
 -- the fact of the first sale of a line
-abbrev fact_among : List Accepted → List SaleRecord → LineKey → Option Fact
+abbrev pub fact_among : List Accepted → List SaleRecord → LineKey → Option Fact
 fact_among list sales key = option_map (fact_of list) (find (λ s. bytes_eq s.ticket key.ticket && (s.line == key.line)) sales)
 
 abbrev pub void_with : LineKey → Option ℕ → Option VoidRow

@@ -21,6 +21,7 @@ use Rattle.wh_history.proofs.Basics.{some_is}
 use Rattle.wh_history.proofs.Joins.{all_append}
 use Rattle.wh_history.proofs.Members.{place_within}
 use Rattle.wh_history.proofs.Owners.{all_distinct}
+use Rattle.wh_history.proofs.Lists.{all_apart}
 use Rattle.wh_rows.specs.declared.rows.MemberRow.{MemberRow}
 use Rattle.wh_rows.specs.declared.rows.ProfileRow.{ProfileRow}
 use Rattle.wh_rows.specs.declared.key.MemberKey.{MemberKey}
@@ -30,7 +31,6 @@ use Rattle.wh_rows.specs.Rows as row
 use Rattle.wh_model.specs.Defined.{member_at, profile_at}
 use Rattle.wh_model.specs.Sound.{IsGoodRecord, IsGoodSale, IsAccepted}
 use Rattle.wh_model.proofs.GrownKeys.{all_at}
-use Rattle.wh_model.proofs.GrownChanges.{all_apart}
 use Rattle.wh_model.proofs.SmallNumbers.{is_small, at_within, commands_few, anchors_few, members_few, profiles_few}
 use Rattle.wh_model.proofs.ValidSlots.{IsSlot, no_text, unknown_slot, no_card_slot, slot_in, columns_slots, columns_length, six_slots, six_columns, all_mapped}
 use Rattle.wh_model.proofs.ValidRows.{IsGoodMember, slots_of_values, good_changes, shown_small, valid_row, valid_found, first_is_day, last_is_day}

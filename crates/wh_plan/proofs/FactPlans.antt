@@ -27,8 +27,8 @@ use Rattle.wh_plan.specs.declared.edits.FactEdit.TheVariants.{Row, Rekey}
 use Rattle.wh_plan.proofs.Exact as exact
 use Rattle.wh_plan.proofs.GrownFacts.{line_is}
 use Rattle.wh_plan.proofs.Lines.{edits_ascend, edit_of_line}
-use Rattle.wh_plan.proofs.MovedLists.{found_has}
 use Rattle.wh_plan.proofs.Plans as plans
+use Rattle.wh_model.proofs.GrownKeys.{found_is}
 
 -- ---- a fact that stays needs no edit
 
@@ -63,7 +63,7 @@ module _ (edit : Fact → FactEdit) (own : (f : Fact) → edited_line (edit f) �
       | Some f ↦ λ some.
           let here : row.fact.key f ≡ line = line_is line f (find_passes (has_line line) f facts some) in
           let stands : after line ≡ Some f = sym (are.lead line) ∙ ap (λ o. option_or o (before line)) some in
-          rw stands (subst (λ k. NeedsFact k (before k) (Some f) (Some (edit f))) here (found_has Needed (has_line line) facts f each some))
+          rw stands (subst (λ k. NeedsFact k (before k) (Some f) (Some (edit f))) here (found_is Needed (has_line line) facts f each some))
     ] refl);
   }
 

@@ -1,5 +1,5 @@
 -- How many anchors a dimension has: the greatest number among the last member's opening and its records' anchors.
-use Rattle.std.proofs.Common.{◌≡◌, ◌⊎◌, ℕ, zero, suc, ◌<◌, ◌≤◌, ◌==◌, Bool, true, false, cond, not, ◌&&◌, ◌||◌, List, [], ◌∷◌, ◌++◌, map, filter, length, max, is_some, Option, Some, None, refl, sym, ◌∙◌, ap, subst, arith, inl, inr, length-append}
+use Rattle.std.proofs.Common.{◌≡◌, ◌⊎◌, ℕ, suc, ◌<◌, ◌≤◌, ◌==◌, Bool, true, false, cond, not, ◌&&◌, ◌||◌, List, [], ◌∷◌, ◌++◌, map, filter, length, max, is_some, Option, Some, None, refl, sym, ◌∙◌, ap, subst, arith, inl, inr}
 use Rattle.std.specs.Prelude.{bytes_eq, flat_map, option_map, option_to_list, unwrap_or}
 use Rattle.std.specs.List.{list_any, AllByRecursion}
 use Rattle.std.specs.FinMap.{values}
@@ -18,12 +18,15 @@ use Rattle.wh_history.proofs.Places.{anchors_decide}
 use Rattle.wh_history.proofs.Once.{once_distinct, among_distinct}
 use Rattle.wh_history.proofs.Members.{place_within}
 use Rattle.wh_history.proofs.Records.{and_false, day_mentioned}
+use Rattle.wh_history.proofs.Lists.{filter_twice}
 use Rattle.wh_rows.specs.Tables.{Tables}
 use Rattle.wh_model.specs.Defined.{AreOf}
 use Rattle.wh_plan.specs.Reading.{last_opening}
 use Rattle.wh_model.proofs.FoundPlaces.{at_place-map, at_place_among, place_at}
+use Rattle.wh_model.proofs.GrownKeys.{at_last}
 use Rattle.wh_plan.proofs.FoundMembers.{same_dim}
 use Rattle.wh_plan.proofs.FoundChanges.{anchors_read}
+use Rattle.wh_rows.proofs.Keys.{and-true}
 
 -- ---- filters
 
@@ -42,15 +45,6 @@ filters_turn p q (x ∷ xs) =
       ]
     ] refl
 
-filter_twice : {X : Type 0} (p : X → Bool) (xs : List X) → filter p (filter p xs) ≡ filter p xs
-filter_twice p [] = refl
-filter_twice p (x ∷ xs) =
-    let rest = filter_twice p xs in
-    elim (p x) as (λ b. p x ≡ b → filter p (cond b (x ∷ filter p xs) (filter p xs)) ≡ cond b (x ∷ filter p xs) (filter p xs)) [
-      | true ↦ λ e. rw e (ap (λ ys. x ∷ ys) rest)
-      | false ↦ λ e. rest
-    ] refl
-
 filter_of_map : {X Y : Type 0} (f : X → Y) (p : Y → Bool) (xs : List X) → filter p (map f xs) ≡ map f (filter (λ x. p (f x)) xs)
 filter_of_map f p [] = refl
 filter_of_map f p (x ∷ xs) =
@@ -59,10 +53,6 @@ filter_of_map f p (x ∷ xs) =
       | true ↦ ap (λ ys. f x ∷ ys) rest
       | false ↦ rest
     ]
-
-pub and_true : (b : Bool) → (b && true) ≡ b
-and_true true = refl
-and_true false = refl
 
 filter_every : {X : Type 0} (p : X → Bool) → ((x : X) → p x ≡ true) → (xs : List X) → filter p xs ≡ xs
 filter_every p passes [] = refl
@@ -88,7 +78,7 @@ Opens as' = filter opens (distinct same_anchor as') ≡ map opening_of (distinct
 openings_left : (n : List ℕ) (ms : List (List ℕ)) → filter (others (opening_of n)) (map opening_of ms) ≡ map opening_of (filter (other_names n) ms)
 openings_left n ms =
     filter_of_map opening_of (others (opening_of n)) ms
-    ∙ ap (map opening_of) (filter_agree (λ m. others (opening_of n) (opening_of m)) (other_names n) (λ m. ap not (and_true (bytes_eq n m))) ms)
+    ∙ ap (map opening_of) (filter_agree (λ m. others (opening_of n) (opening_of m)) (other_names n) (λ m. ap not (and-true (bytes_eq n m))) ms)
 
 -- one more opening in front
 opening_first : (n : List ℕ) (as' : List Anchor) (ms : List (List ℕ)) → filter opens (distinct same_anchor as') ≡ map opening_of ms → filter opens (distinct same_anchor (opening_of n ∷ as')) ≡ map opening_of (n ∷ filter (other_names n) ms)
@@ -145,14 +135,6 @@ last_of [] some = absurd (omega arith)
 last_of (x ∷ []) some = ([], x, refl)
 last_of (x ∷ y ∷ ys) some = let rest = last_of (y ∷ ys) (omega arith) in (x ∷ rest.0, rest.1, ap (λ zs. x ∷ zs) rest.2)
 
-at_end : {X : Type 0} (front : List X) (x : X) → at_place (length (front ++ x ∷ [])) (front ++ x ∷ []) ≡ Some x
-at_end [] x = refl
-at_end (y ∷ front) x = behind_given (length (front ++ x ∷ [])) y (front ++ x ∷ []) (simp length-append (omega arith)) ∙ at_end front x
-  where
-    behind_given : {X : Type 0} (n : ℕ) (y : X) (xs : List X) → 0 < n → at_place (suc n) (y ∷ xs) ≡ at_place n xs
-    behind_given zero y xs given = absurd (omega arith)
-    behind_given (suc n) y xs given = refl
-
 length_map : {X Y : Type 0} (f : X → Y) (xs : List X) → length (map f xs) ≡ length xs
 length_map f [] = refl
 length_map f (x ∷ xs) = ap suc (length_map f xs)
@@ -172,7 +154,7 @@ module _ (dim : Dim) (commands : List Accepted) where
       let listed : map opening_of (members dim commands) ≡ filter opens front ++ a ∷ [] = sym (openings_are dim commands) ∙ ap (filter opens) ends ∙ kept in
       let size : length (members dim commands) ≡ length (filter opens front ++ a ∷ []) = sym (length_map opening_of (members dim commands)) ∙ ap (λ (xs : List Anchor). length xs) listed in
       let last : option_map opening_of (at_place (length (members dim commands)) (members dim commands)) ≡ Some a =
-      sym (at_place-map opening_of (length (members dim commands)) (members dim commands)) ∙ ap (at_place (length (members dim commands))) listed ∙ ap (λ n. at_place n (filter opens front ++ a ∷ [])) size ∙ at_end (filter opens front) a in
+      sym (at_place-map opening_of (length (members dim commands)) (members dim commands)) ∙ ap (at_place (length (members dim commands))) listed ∙ ap (λ n. at_place n (filter opens front ++ a ∷ [])) size ∙ at_last (filter opens front) a in
       by_member (at_place (length (members dim commands)) (members dim commands)) last
     where
       by_member : (o : Option (List ℕ)) → option_map opening_of o ≡ Some a → unwrap_or (option_map (λ natural. surrogate_key dim commands (opening_of natural)) o) 0 ≡ surrogate_key dim commands a
@@ -251,7 +233,7 @@ module _ (greatest : List ℕ → ℕ) (of_none : greatest [] ≡ 0) (of_more : 
           | inr none ↦ omega arith
           | inl some ↦
               let last = last_of (anchors dim commands) some in
-              let at : at_place (length (anchors dim commands)) (anchors dim commands) ≡ Some last.1 = ap (λ (xs : List Anchor). at_place (length xs) xs) last.2 ∙ at_end last.0 last.1 in
+              let at : at_place (length (anchors dim commands)) (anchors dim commands) ≡ Some last.1 = ap (λ (xs : List Anchor). at_place (length xs) xs) last.2 ∙ at_last last.0 last.1 in
               elim (last_among dim commands last.1 at last.0 last.2) [
                 | inl opening ↦ omega arith
                 | inr told ↦ let high = greatest_above (length (anchors dim commands)) days told in omega arith

@@ -18,7 +18,7 @@ use Rattle.wh_history.specs.Tables.{Limits}
 use Rattle.wh_history.specs.declared.member.Change.{Change}
 use Rattle.wh_history.proofs.Places.{one_place}
 use Rattle.wh_history.proofs.Joins.{all_weaker}
-use Rattle.wh_model.proofs.Listed.{filter_all}
+use Rattle.wh_history.proofs.Lists.{all_front, all_back}
 use Rattle.wh_rows.specs.declared.rows.ChangeRow.{ChangeRow}
 use Rattle.wh_rows.specs.Tables.{Tables}
 use Rattle.wh_model.specs.Defined.{AreOf}
@@ -26,7 +26,8 @@ use Rattle.wh_plan.specs.Reading.{HaveNoEmptyValue, given_text, change_in}
 use Rattle.wh_model.proofs.FoundPlaces.{same_number_is, number_itself}
 use Rattle.wh_plan.proofs.FoundMembers.{same_dim, same_dim_is, dim_itself}
 use Rattle.wh_model.proofs.ListedChanges.{made, record_rows, content_rows, change_rows, changes_listed}
-use Rattle.wh_rows.proofs.BehindStored.{all_front}
+use Rattle.wh_rows.proofs.Edits.{filter_all}
+use Rattle.wh_rows.proofs.Keys.{and-true}
 
 -- ---- the texts of the slots
 
@@ -51,10 +52,6 @@ read_back texts all =
     map-append given_text texts (replicate (6 - length texts) [])
     ∙ ap (λ ts. ts ++ map given_text (replicate (6 - length texts) [])) (given_all texts all)
     ∙ ap (λ ts. texts ++ ts) (given_none (6 - length texts))
-
-all_back : {X : Type 0} (P : X → Type 0) (xs ys : List X) → AllByRecursion P (xs ++ ys) → AllByRecursion P ys
-all_back P [] ys all = all
-all_back P (x ∷ xs) ys all = all_back P xs ys all.1
 
 tests_agree : (a b : Dim) → same_dim a b ≡ accepted.same_dim a b
 tests_agree Product Product = refl
@@ -174,14 +171,10 @@ pub anchors_read : (limits : Limits) (commands : List Accepted) (t : Tables) →
 anchors_read limits commands t are dim =
     let tell = λ (r : DimensionRecord). surrogate_key dim commands (day_of r.natural r.day) in
     let all = λ (r : DimensionRecord). true in
-    ap (map (λ (r : ChangeRow). r.anchor)) (filter_agree (λ (r : ChangeRow). same_dim dim r.dim) (λ (r : ChangeRow). same_dim dim r.dim && true) (λ r. sym (and_true (same_dim dim r.dim))) (values t.change))
+    ap (map (λ (r : ChangeRow). r.anchor)) (filter_agree (λ (r : ChangeRow). same_dim dim r.dim) (λ (r : ChangeRow). same_dim dim r.dim && true) (λ r. sym (and-true (same_dim dim r.dim))) (values t.change))
     ∙ read_told dim commands (λ (r : ChangeRow). r.anchor) tell (λ (r : ChangeRow). true) all limits t are (each (described dim commands))
     ∙ ap (map tell) (filter_all (described dim commands))
   where
-    and_true : (b : Bool) → (b && true) ≡ b
-    and_true true = refl
-    and_true false = refl
-
     each : (rs : List DimensionRecord) → AllByRecursion (Tells dim commands (λ (r : ChangeRow). r.anchor) (λ (r : DimensionRecord). surrogate_key dim commands (day_of r.natural r.day)) (λ (r : ChangeRow). true) (λ (r : DimensionRecord). true)) rs
     each [] = tt
     each (r ∷ rs) = ((λ number place. (refl, refl)), each rs)

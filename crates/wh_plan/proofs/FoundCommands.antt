@@ -18,7 +18,8 @@ use Rattle.wh_store.specs.Reads.{same_text}
 use Rattle.wh_model.specs.Defined.{AreOf, command_at}
 use Rattle.wh_plan.specs.Reading.{HaveDistinctIds, number_by_id, command_with}
 use Rattle.wh_model.proofs.Listed.{passes_at, values-numbered, len-values, length_numbered}
-use Rattle.wh_model.proofs.FoundPlaces.{same_text_is, text_itself, at_place-map, at_place_past, at_place_there, behind_one, place_given, place_at, once_is}
+use Rattle.wh_model.proofs.FoundPlaces.{same_text_is, text_itself, at_place-map, at_place_there, behind_one, place_given, place_at, once_is}
+use Rattle.wh_model.proofs.GrownKeys.{at_past}
 
 abbrev pub stored : ℕ → Told → CommandRow
 stored number c = record { number = number; id = c.id; kind = c.kind; bytes = c.bytes; records = c.records; placeholders = c.placeholders }
@@ -46,7 +47,7 @@ module _ (commands : List Accepted) where
   id_at number r is = at_place-map (λ (c : Accepted). c.id) number commands ∙ told_id number (at_place number commands) r is
 
   pub command_past : (number : ℕ) → length commands < number → command_at commands number ≡ None
-  command_past number past = ap (λ (o : Option Accepted). option_map (stored number) (option_map (told commands number) o)) (at_place_past number commands past)
+  command_past number past = ap (λ (o : Option Accepted). option_map (stored number) (option_map (told commands number) o)) (at_past number commands past)
 
   there : (number : ℕ) → 1 ≤ number → number < 1 + length commands → (r : CommandRow) × (command_at commands number ≡ Some r)
   there number low high =

@@ -26,16 +26,15 @@ use Rattle.wh_rows.proofs.Orders.{dim_once, member_cmp_total, member_cmp-IsAntis
 use Rattle.wh_store.specs.Reads.{same_text}
 use Rattle.wh_model.specs.Defined.{AreOf, member_at}
 use Rattle.wh_model.proofs.Listed.{filter-values, passes_at, ascends_numbered, all_numbered, among_numbered, last_numbered, number_rises}
-use Rattle.wh_model.proofs.FoundPlaces.{same_text_is, text_itself, same_number_is, number_itself, at_place_past, at_place_there, place_given, place_at}
+use Rattle.wh_model.proofs.FoundPlaces.{same_text_is, text_itself, same_number_is, number_itself, at_place_there, place_given, place_at}
+use Rattle.wh_model.proofs.GrownKeys.{at_past}
+use Rattle.wh_model.proofs.GrownMembers.{key_of}
 
 abbrev stored : MemberKey → Told → MemberRow
 stored key m = record { dim = key.dim; durable = key.durable; natural = m.natural; opening = m.opening }
 
 abbrev told : Dim → List Accepted → List ℕ → Told
 told dim commands natural = record { natural = natural; opening = surrogate_key dim commands (opening_of natural) }
-
-abbrev pub key_of : Dim → ℕ → MemberKey
-key_of dim durable = record { dim = dim; durable = durable }
 
 abbrev pub key_in : MemberRow → MemberKey
 key_in r = record { dim = r.dim; durable = r.durable }
@@ -96,7 +95,7 @@ module _ (limits : Limits) (commands : List Accepted) (t : Tables) (are : AreOf 
       let mine : k ≡ key_of dim k.durable = ap (λ (d : Dim). key_of d k.durable) (ap (λ (j : MemberKey). j.dim) (sym at) ∙ sym (same_dim_is dim r.dim same)) in
       let stands : row k.durable ≡ Some r = ap (member_at commands) (sym mine) ∙ is in
       elim (cases_lt (length (members dim commands)) k.durable) [
-        | inl past ↦ let none = no_member commands dim k.durable (at_place_past k.durable (members dim commands) past) in absurd (cc)
+        | inl past ↦ let none = no_member commands dim k.durable (at_past k.durable (members dim commands) past) in absurd (cc)
         | inr within ↦
             let given = place_given k.durable (members k.dim commands) r.natural (natural_at commands k r is) in
             among_numbered row (λ w. eq_by_cmp member_cmp k (key_in w)) k.durable r stands (ap (eq_by_cmp member_cmp k) at ∙ (eq_by_cmp_equiv member_cmp_total).refl k) 1 count given (omega arith)

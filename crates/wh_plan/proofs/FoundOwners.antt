@@ -1,8 +1,8 @@
 -- Each key of a dimension's table is of one member.
-use Rattle.std.proofs.Common.{◌≡◌, ℕ, zero, suc, ◌<◌, ◌==◌, Bool, true, false, ◌||◌, ◌&&◌, List, [], ◌∷◌, ◌++◌, map, Option, Some, None, Result, IfOk, refl, sym, ◌∙◌, ap, subst, arith}
+use Rattle.std.proofs.Common.{◌≡◌, ℕ, zero, suc, ◌<◌, ◌==◌, Bool, true, false, ◌||◌, ◌&&◌, List, [], ◌∷◌, ◌++◌, map, Option, Some, None, Result, IfOk, refl, sym, ◌∙◌, ap, arith}
 use Rattle.std.specs.Prelude.{bytes_eq, flat_map, option_to_list}
 use Rattle.std.specs.Option.{option_and_then}
-use Rattle.std.specs.List.{list_any, AllByRecursion}
+use Rattle.std.specs.List.{list_any}
 use Rattle.std.proofs.lemmas.Bool.{eqb-true, eq-eqb, ne_eqb}
 use Rattle.std.proofs.lemmas.Result.{IfOk-weaker}
 use Rattle.std.proofs.lemmas.List.Folds.{list_any-append}
@@ -32,6 +32,7 @@ use Rattle.wh_history.proofs.Lasts.{not_among}
 use Rattle.wh_history.proofs.Owners.{owners_given}
 use Rattle.wh_plan.specs.Reading.{rows_with}
 use Rattle.wh_plan.proofs.FoundRows.{owned, row_with}
+use Rattle.wh_model.proofs.GrownKeys.{all_at}
 
 -- ---- a member that is mentioned is mentioned by its opening
 
@@ -112,12 +113,6 @@ row_owner dim commands natural key r ends member found =
       ap (λ n. at_place n (anchors dim commands)) here ∙ at_place-place same_anchor anchors_decide (start_anchor dim commands natural span.0.0) (anchors dim commands) keyed.1,
       refl,
     )
-
-all_at : {X : Type 0} (P : X → Type 0) (n : ℕ) (xs : List X) (x : X) → AllByRecursion P xs → at_place n xs ≡ Some x → P x
-all_at P zero xs x all at = absurd (cc)
-all_at P (suc n) [] x all at = absurd (cc)
-all_at P (suc zero) (y ∷ ys) x all at = let is : y ≡ x = cc in subst P is all.0
-all_at P (suc (suc n)) (y ∷ ys) x all at = all_at P (suc n) ys x all.1 at
 
 -- one member has one number
 pub one_member : (dim : Dim) (commands : List Accepted) (m n : List ℕ) → 0 < durable_key dim commands m → durable_key dim commands m ≡ durable_key dim commands n → m ≡ n

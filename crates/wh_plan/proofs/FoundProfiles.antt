@@ -28,7 +28,8 @@ use Rattle.wh_model.specs.Defined.{AreOf, profile_at}
 use Rattle.wh_plan.specs.Profiles.{number_kept}
 use Rattle.wh_model.proofs.FoundPlaces.{same_text_is, text_itself, at_place_there, place_at}
 use Rattle.wh_model.proofs.GrownProfiles.{profile_keyed, none_past}
-use Rattle.wh_model.proofs.Listed.{passes_at, none_passes, values-numbered, filter_all, last_numbered}
+use Rattle.wh_model.proofs.Listed.{passes_at, none_passes, values-numbered, last_numbered}
+use Rattle.wh_rows.proofs.Edits.{filter_all}
 
 -- ---- the texts of six slots
 

@@ -19,7 +19,8 @@ use Rattle.wh_history.proofs.Basics.{some_is, find_passes}
 use Rattle.wh_history.proofs.Effective.{came_from}
 use Rattle.wh_plan.specs.Reading.{rows_with}
 use Rattle.wh_model.proofs.Listed.{kept, values-numbered}
-use Rattle.wh_model.proofs.FoundPlaces.{at_place_past, same_number_is, number_ties}
+use Rattle.wh_model.proofs.FoundPlaces.{same_number_is, number_ties}
+use Rattle.wh_model.proofs.GrownKeys.{at_past}
 
 -- ---- the table in order of its keys
 
@@ -30,7 +31,7 @@ module _ (commands : List Accepted) where
       eqb-true r.surrogate key (find_passes (λ (r : DimRow). r.surrogate == key) r (member_rows commands dim from.0.natural) from.1)
 
   numbered_past : (dim : Dim) (key : ℕ) → length (anchors dim commands) < key → numbered_row commands dim key ≡ None
-  numbered_past dim key past = ap (option_and_then (λ (a : Anchor). row_of key (member_rows commands dim a.natural))) (at_place_past key (anchors dim commands) past)
+  numbered_past dim key past = ap (option_and_then (λ (a : Anchor). row_of key (member_rows commands dim a.natural))) (at_past key (anchors dim commands) past)
 
   pub row_key : (dim : Dim) (key : ℕ) (r : DimRow) → dimension_row commands dim key ≡ Some r → r.surrogate ≡ key
   row_key Product key r is = numbered_key Product key r is

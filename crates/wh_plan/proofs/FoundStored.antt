@@ -25,8 +25,9 @@ use Rattle.wh_sql.proofs.Reading.{last_is}
 use Rattle.wh_history.specs.Tables.{Limits}
 use Rattle.wh_model.specs.Defined.{AreOf, member_at}
 use Rattle.wh_plan.specs.Reading.{last_opening}
-use Rattle.wh_plan.proofs.FoundMembers.{same_dim, key_of, member_is, natural_at, member_found, last_member}
+use Rattle.wh_plan.proofs.FoundMembers.{same_dim, member_is, natural_at, member_found, last_member}
 use Rattle.wh_model.proofs.FoundPlaces.{place_given, at_place_there}
+use Rattle.wh_model.proofs.GrownMembers.{key_of}
 use Rattle.wh_plan.proofs.FoundOwners.{is_mentioned}
 
 module _ (dim : Dim) (commands : List Accepted) (natural : List ℕ) (absent : durable_key dim commands natural ≡ 0) where

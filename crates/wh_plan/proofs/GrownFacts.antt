@@ -1,5 +1,5 @@
 -- Facts and their lines.
-use Rattle.std.proofs.Common.{◌≡◌, ◌==◌, ◌&&◌, true, false, cond, List, [], ◌∷◌, map, Option, Some, None, refl, ◌∙◌, ap, subst}
+use Rattle.std.proofs.Common.{◌≡◌, ◌==◌, ◌&&◌, true, false, cond, List, [], ◌∷◌, map, Some, None, refl, ◌∙◌, ap, subst}
 use Rattle.std.specs.Prelude.{find, bytes_eq, option_map}
 use Rattle.std.specs.FinMap.{FinMap, get, insert, get-insert}
 use Rattle.std.specs.List.{AllByRecursion, IsDistinct}
@@ -57,10 +57,6 @@ pub found_each : (facts : List Fact) → Once facts → AllByRecursion (λ g. fi
 found_each = lines.found_each row.fact.key
 
 -- ---- the facts of sales
-
-pub or_none : {X : Type 0} (o : Option X) → option_or o None ≡ o
-or_none None = refl
-or_none (Some x) = refl
 
 module _ (commands : List Accepted) where
   -- the fact of the first sale on a line is the first fact with that line

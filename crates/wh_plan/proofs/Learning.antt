@@ -27,6 +27,7 @@ use Rattle.wh_model.specs.Defined.{profile_at}
 use Rattle.wh_plan.specs.Profiles.{with_combination, with_combinations, said_of, said_by, numbered_as, learned, is_none, row_of_profile}
 use Rattle.wh_plan.specs.BatchRows.{numbers_after}
 use Rattle.wh_history.proofs.Trials.{get_middle}
+use Rattle.wh_history.proofs.Lists.{all_apart}
 
 abbrev pub any_of : List (List ℕ) → List (List (List ℕ)) → Bool
 any_of t D = list_any (λ c. are_same c t) D
@@ -67,24 +68,20 @@ any_right t xs ys among = list_any-append (λ c. are_same c t) xs ys ∙ ap (λ 
 
 -- ---- what members say
 
-all_fronts : {X : Type 0} (P : X → Type 0) (xs ys : List X) → AllByRecursion P (xs ++ ys) → AllByRecursion P xs × AllByRecursion P ys
-all_fronts P [] ys all = (tt, all)
-all_fronts P (x ∷ xs) ys all = let rest = all_fronts P xs ys all.1 in ((all.0, rest.0), rest.1)
-
 all_said : (kinds : List AttributeType) (P : List (List ℕ) → Type 0) (cs : List Change) → AllByRecursion P (said_of kinds cs) → AllByRecursion (λ (c : Change). P (picks is_profile kinds c.values)) cs
 all_said kinds P [] all = tt
 all_said kinds P (c ∷ cs) all = (all.0, all_said kinds P cs all.1)
 
 pub each_said : (kinds : List AttributeType) (P : List (List ℕ) → Type 0) (ms : List Member) → AllByRecursion P (said_by kinds ms) → AllByRecursion (λ (m : Member). AllByRecursion (λ (c : Change). P (picks is_profile kinds c.values)) m.changes) ms
 each_said kinds P [] all = tt
-each_said kinds P (m ∷ ms) all = let split = all_fronts P (said_of kinds m.changes) (said_by kinds ms) all in (all_said kinds P m.changes split.0, each_said kinds P ms split.1)
+each_said kinds P (m ∷ ms) all = let split = all_apart P (said_of kinds m.changes) (said_by kinds ms) all in (all_said kinds P m.changes split.0, each_said kinds P ms split.1)
 
 -- where what holds of a combination among those of members holds of each change
 pub each_change : (kinds : List AttributeType) (Q : List (List ℕ) → Type 0) (front : List (List (List ℕ))) (ms : List Member) → ((values : List (List ℕ)) → any_of (picks is_profile kinds values) (front ++ said_by kinds ms) ≡ true → Q (picks is_profile kinds values))
     → AllByRecursion (λ (m : Member). AllByRecursion (λ (c : Change). Q (picks is_profile kinds c.values)) m.changes) ms
 each_change kinds Q front ms each =
     let P = λ (t : List (List ℕ)). any_of t (front ++ said_by kinds ms) ≡ true in
-    let there = (all_fronts P front (said_by kinds ms) (all_there (front ++ said_by kinds ms))).1 in
+    let there = (all_apart P front (said_by kinds ms) (all_there (front ++ said_by kinds ms))).1 in
     all_weaker (λ (m : Member). AllByRecursion (λ (c : Change). P (picks is_profile kinds c.values)) m.changes) (λ (m : Member). AllByRecursion (λ (c : Change). Q (picks is_profile kinds c.values)) m.changes)
     (λ m all. all_weaker (λ (c : Change). P (picks is_profile kinds c.values)) (λ (c : Change). Q (picks is_profile kinds c.values)) (λ c among. each c.values among) m.changes all)
     ms (each_said kinds P ms there)

@@ -17,7 +17,7 @@ use Rattle.wh_history.proofs.Basics.{find_passes}
 use Rattle.wh_rows.proofs.Orders.{line_cmp_total, line_cmp-IsAntisymmetric}
 use Rattle.wh_rows.specs.Rows as row
 use Rattle.wh_rows.specs.declared.key.LineKey.{LineKey}
-use Rattle.wh_plan.proofs.MovedLists.{found_has}
+use Rattle.wh_model.proofs.GrownKeys.{found_is}
 
 pub all_permuted : {X : Type 0} (P : X → Type 0) (xs ys : List X) → IsPermutation xs ys → AllByRecursion P xs → AllByRecursion P ys
 all_permuted P xs ys moved all = recursion_from_All P ys (All-permutation P xs ys moved (All-from_recursion P xs all))
@@ -109,7 +109,7 @@ module _ {X : Type 0} (key : X → LineKey) where
             let P = λ (y : X). find (on_line (key y)) ys ≡ Some y in
             let each = all_permuted P ys xs (IsPermutation-sym xs ys moved) (found_each ys (once_permuted xs ys moved once)) in
             let here : key x ≡ line = line_is line x (find_passes (on_line line) x xs some) in
-            subst (λ k. find (on_line k) ys ≡ Some x) here (found_has P (on_line line) xs x each some)
+            subst (λ k. find (on_line k) ys ≡ Some x) here (found_is P (on_line line) xs x each some)
       ] refl
 
   -- ---- in order

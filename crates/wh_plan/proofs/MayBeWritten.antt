@@ -25,6 +25,7 @@ use Rattle.wh_history.proofs.Basics.{both_true, some_is}
 use Rattle.wh_history.proofs.Batches.{same_dimension}
 use Rattle.wh_history.proofs.Standing.{withdrawn-last}
 use Rattle.wh_history.proofs.Untouched.{described-last}
+use Rattle.wh_history.proofs.Lists.{all_apart}
 use Rattle.wh_rows.specs.declared.rows.MetaRow.{MetaRow}
 use Rattle.wh_rows.specs.declared.rows.CommandRow.{CommandRow}
 use Rattle.wh_rows.specs.declared.rows.ChangeRow.{ChangeRow}
@@ -50,7 +51,7 @@ use Rattle.wh_plan.proofs.Plans.{plan_puts}
 use Rattle.wh_model.proofs.CountedSales.{standing_counted}
 use Rattle.wh_model.proofs.GrownCommands.{command_grows}
 use Rattle.wh_model.proofs.GrownKeys.{at_last, all_at}
-use Rattle.wh_model.proofs.GrownChanges.{all_apart, new_row, changes_grow}
+use Rattle.wh_model.proofs.GrownChanges.{new_row, changes_grow}
 use Rattle.wh_model.proofs.GrownChanges as change
 use Rattle.wh_model.proofs.SmallNumbers.{is_small, commands_few, described_few, members_few, sold_few}
 use Rattle.wh_model.proofs.ValidTables.{made_of, dimension_valid, member_valid, change_made, profile_valid}

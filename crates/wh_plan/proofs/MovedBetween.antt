@@ -54,12 +54,12 @@ use Rattle.wh_model.specs.Sound.{IsGoodSale, IsAccepted}
 use Rattle.wh_model.proofs.Following.{Named, owned, all_named, late_records_move_facts}
 use Rattle.wh_model.proofs.Formatted.{facts_are}
 use Rattle.wh_model.proofs.FoundPlaces.{same_number_is}
-use Rattle.wh_model.proofs.GrownKeys.{all_at}
+use Rattle.wh_model.proofs.GrownKeys.{all_at, found_is}
 use Rattle.wh_model.proofs.GrownMembers.{opening_given}
 use Rattle.wh_model.proofs.Listed.{none_passes}
-use Rattle.wh_plan.proofs.MovedFacts.{on_line}
 use Rattle.wh_model.proofs.MovedKeys.{with_keys, keys_for, own_keys, follows_member, owner_is, same_as_itself, sold_same}
-use Rattle.wh_plan.proofs.MovedLists.{found_has, idle_left_out, none_left}
+use Rattle.wh_model.proofs.WholeFacts.{on_line}
+use Rattle.wh_plan.proofs.MovedLists.{idle_left_out, none_left}
 use Rattle.wh_plan.proofs.PlanPremises.{days_after, days_before}
 
 -- ---- between
@@ -172,7 +172,7 @@ module _ (limits : Limits) (commands : List Accepted) (c : Accepted) (rs : List 
 
       module _ (start : Change) (found : find keeps (dated old) ≡ Some start) where
         is_start : is_day start.day ≡ true
-        is_start = found_has (λ (d : Change). is_day d.day ≡ true) keeps (dated old) start (all_dated (λ (d : Change). is_day d.day ≡ true) old days_old) found
+        is_start = found_is (λ (d : Change). is_day d.day ≡ true) keeps (dated old) start (all_dated (λ (d : Change). is_day d.day ≡ true) old days_old) found
 
         passes : (nat_lt last start.day ≡ true) × (keeps_row stored_shown after_shown start.day ≡ true)
         passes = both_true (nat_lt last start.day) (keeps_row stored_shown after_shown start.day) (find_passes keeps start (dated old) found)
@@ -261,7 +261,7 @@ module _ (limits : Limits) (commands : List Accepted) (c : Accepted) (rs : List 
       where
         by_sale : (o : Option SaleRecord) → find (on_line key) (standing commands) ≡ o → option_map (fact_of commands) o ≡ Some f → (s : SaleRecord) × (fact_of commands s ≡ f) × (is_day s.day ≡ true)
         by_sale None found h = absurd cc
-        by_sale (Some s) found h = (s, some_is (fact_of commands s) f h, (found_has IsGoodSale (on_line key) (standing commands) s good_standing found).day)
+        by_sale (Some s) found h = (s, some_is (fact_of commands s) f h, (found_is IsGoodSale (on_line key) (standing commands) s good_standing found).day)
 
     module _ (natural : List ℕ) (given : 0 < durable_key dim commands natural) where
       abbrev since : ℕ

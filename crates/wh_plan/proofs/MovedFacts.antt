@@ -1,5 +1,5 @@
 -- The facts that a batch of records moves, out of the table.
-use Rattle.std.proofs.Common.{◌≡◌, ℕ, ◌<◌, ◌==◌, Bool, true, false, cond, ◌&&◌, nat_lt, List, [], ◌∷◌, ◌++◌, Option, Some, None, refl, sym, ◌∙◌, ap, subst}
+use Rattle.std.proofs.Common.{◌≡◌, ℕ, ◌<◌, Bool, true, false, cond, nat_lt, List, [], ◌∷◌, ◌++◌, Option, Some, None, refl, sym, ◌∙◌, ap, subst}
 use Rattle.std.specs.Prelude.{◌≢◌, bytes_eq, find, filter, filter_map, flat_map, map, option_map}
 use Rattle.std.specs.FinMap.{values, get}
 use Rattle.std.specs.List.{AllByRecursion, list_any}
@@ -35,19 +35,17 @@ use Rattle.wh_model.proofs.Following.{Named, all_named, late_records_move_facts}
 use Rattle.wh_model.proofs.FoundPlaces.{same_number_is, number_itself}
 use Rattle.wh_model.proofs.GrownChanges.{natural_among}
 use Rattle.wh_plan.proofs.GrownFacts.{own_line, line_is, Once, found_each}
-use Rattle.wh_model.proofs.GrownKeys.{all_at}
+use Rattle.wh_model.proofs.GrownKeys.{all_at, found_is}
 use Rattle.wh_model.proofs.Listed.{passes_at}
 use Rattle.wh_model.proofs.MovedKeys.{with_keys, keys_for, moved_gives, moved_has, moved_is_other, follows_member, follows_none, follows_unmentioned, owner_is, durable_is, at_found}
-use Rattle.wh_plan.proofs.MovedLists.{find_by_filter, distinct_by_filter, filter_flat, flat_none, filter_moves, moves_of_some, moves_of_one, owner_gives, found_has, not_found}
+use Rattle.wh_model.proofs.WholeFacts.{on_line}
+use Rattle.wh_plan.proofs.MovedLists.{find_by_filter, distinct_by_filter, filter_flat, flat_none, filter_moves, moves_of_some, moves_of_one, owner_gives, not_found}
 use Rattle.wh_plan.proofs.PlanningMembers.{naturals}
 use Rattle.wh_plan.proofs.PlanningOwners.{any_kept, above_none, none_above}
 use Rattle.wh_plan.proofs.PlanRows.{flat_map_same}
 
-abbrev pub on_line : LineKey → SaleRecord → Bool
-on_line key s = bytes_eq s.ticket key.ticket && (s.line == key.line)
-
 -- a sale's fact stands on its line
-fact_keyed : (commands : List Accepted) (key : LineKey) (f : Fact) → fact_at commands key ≡ Some f → row.fact.key f ≡ key
+pub fact_keyed : (commands : List Accepted) (key : LineKey) (f : Fact) → fact_at commands key ≡ Some f → row.fact.key f ≡ key
 fact_keyed commands key f is = by_sale (find (on_line key) (standing commands)) refl is
   where
     by_sale : (o : Option SaleRecord) → find (on_line key) (standing commands) ≡ o → option_map (fact_of commands) o ≡ Some f → row.fact.key f ≡ key
@@ -153,7 +151,7 @@ module _ (limits : Limits) (commands : List Accepted) (c : Accepted) (dim : Dim)
 
     owned : (natural : List ℕ) → find (owns stored) touched ≡ Some natural → fact_of after s ≡ with_keys stored (keys_for after dim natural stored)
     owned natural found =
-        let given = found_has Given (owns stored) touched natural (given_each (naturals_told rs)) found in
+        let given = found_is Given (owns stored) touched natural (given_each (naturals_told rs)) found in
         let same = same_number_is (durable_key dim commands natural) (durable_of dim stored) (find_passes (owns stored) natural touched found) in
         follows ∙ follows_member commands c rs dim is s natural (owner_is dim commands s natural given same)
 

@@ -1,5 +1,5 @@
 -- The rows of a list that pass a test, after steps that keep whether they do.
-use Rattle.std.proofs.Common.{◌≡◌, ℕ, suc, ◌+◌, ◌<◌, length, drop, get_or, arith, append_assoc, drop-cons, Bool, true, false, not, cond, ◌||◌, ◌&&◌, ◌≤◌, List, [], ◌∷◌, ◌++◌, map, Option, Some, None, refl, sym, ◌∙◌, ap, subst, append-nil}
+use Rattle.std.proofs.Common.{◌≡◌, ℕ, suc, ◌+◌, ◌<◌, length, drop, get_or, arith, append_assoc, drop-cons, Bool, true, false, not, cond, ◌||◌, ◌&&◌, ◌≤◌, List, [], ◌∷◌, ◌++◌, map, Option, Some, None, refl, sym, ◌∙◌, ap, append-nil}
 use Rattle.std.specs.Prelude.{find, filter, filter_map, flat_map, is_some, zip}
 use Rattle.std.specs.Bool.{Decides}
 use Rattle.std.specs.List.{list_any, AllByRecursion, IsDistinct, cons_option}
@@ -8,12 +8,9 @@ use Rattle.std.proofs.lemmas.List.{drop_all}
 use Rattle.std.proofs.lemmas.List.Elements.{filter-append}
 use Rattle.wh_history.proofs.Basics.{or_none}
 use Rattle.wh_history.proofs.Once.{IsOnce}
+use Rattle.wh_store.proofs.Looping.{next_is}
 
 -- ---- one or none
-
-pub is_absent : {X : Type 0} (o : Option X) → is_some o ≡ false → o ≡ None
-is_absent None h = refl
-is_absent (Some x) h = absurd cc
 
 one_is : {X : Type 0} (x : X) (xs : List X) (o : Option X) → x ∷ xs ≡ option_to_list o → Some x ≡ o
 one_is x xs None h = cc
@@ -151,14 +148,6 @@ module _ {N X : Type 0} (same : N → N → Bool) (decides : (n m : N) → Decid
 
 -- ---- what is found, and where
 
-pub found_has : {X : Type 0} (P : X → Type 0) (p : X → Bool) (xs : List X) (x : X) → AllByRecursion P xs → find p xs ≡ Some x → P x
-found_has P p [] x all h = absurd cc
-found_has P p (y ∷ xs) x all h =
-    elim (p y) as (λ b. cond b (Some y) (find p xs) ≡ Some x → P x) [
-      | true ↦ λ first. let same : y ≡ x = cc in subst P same all.0
-      | false ↦ λ later. found_has P p xs x all.1 later
-    ] h
-
 pub not_found : {X : Type 0} (p q : X → Bool) → ((x : X) → q x ≡ true → p x ≡ true) → (xs : List X) → list_any q xs ≡ true → find p xs ≡ None → ⊥
 not_found p q so [] among none = cc
 not_found p q so (x ∷ xs) among none =
@@ -190,11 +179,6 @@ pub pairs_through : {N X Y Z : Type 0} (f : X × Y → List Z) (g : N → X) (h 
 pairs_through f g h [] = refl
 pairs_through f g h (n ∷ ns) = ap (λ zs. f (g n, h n) ++ zs) (pairs_through f g h ns)
 
-next_left : {X : Type 0} (xs : List X) (i : ℕ) (x : X) → i < length xs → x ≡ get_or xs i x → drop i xs ≡ x ∷ drop (i + 1) xs
-next_left xs i x within stands =
-    let further : suc i ≡ i + 1 = omega arith in
-    drop-cons xs i x within ∙ ap (λ y. y ∷ drop (suc i) xs) (sym stands) ∙ ap (λ k. x ∷ drop k xs) further
-
 pub pairs_further : {X Y : Type 0} (made now : List (X × Y)) (all : List (X × Y)) (xs : List X) (ys : List Y) (i : ℕ) (x : X) (y : Y) → now ≡ made ++ (x, y) ∷ []
     → i < length xs → x ≡ get_or xs i x → i < length ys → y ≡ get_or ys i y
     → made ++ zip (drop i xs) (drop i ys) ≡ all → now ++ zip (drop (i + 1) xs) (drop (i + 1) ys) ≡ all
@@ -202,8 +186,8 @@ pairs_further made now all xs ys i x y is x_within x_stands y_within y_stands so
     let rest = zip (drop (i + 1) xs) (drop (i + 1) ys) in
     ap (λ zs. zs ++ rest) is
     ∙ append_assoc made ((x, y) ∷ []) rest
-    ∙ ap (λ us. made ++ zip us (y ∷ drop (i + 1) ys)) (sym (next_left xs i x x_within x_stands))
-    ∙ ap (λ us. made ++ zip (drop i xs) us) (sym (next_left ys i y y_within y_stands))
+    ∙ ap (λ us. made ++ zip us (y ∷ drop (i + 1) ys)) (sym (next_is xs i x x_within x_stands))
+    ∙ ap (λ us. made ++ zip (drop i xs) us) (sym (next_is ys i y y_within y_stands))
     ∙ so_far
 
 none_left_of : {X Y : Type 0} (xs : List X) (ys : List Y) (i : ℕ) → length xs ≤ i → zip (drop i xs) ys ≡ []

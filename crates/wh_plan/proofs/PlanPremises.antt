@@ -12,16 +12,14 @@ use Rattle.wh_history.specs.Tables.{Limits}
 use Rattle.wh_history.proofs.Growth.{anchors-append, members-append}
 use Rattle.wh_history.proofs.Joins.{all_weaker}
 use Rattle.wh_history.proofs.Untouched.{described-last}
+use Rattle.wh_history.proofs.Lists.{all_front}
 use Rattle.wh_plan.specs.Reading.{HaveNoEmptyValue}
 use Rattle.wh_model.specs.Sound.{IsGivenValue, IsGoodRecord, IsAccepted}
 use Rattle.wh_model.proofs.SmallNumbers.{anchors_few, members_few}
-use Rattle.wh_rows.proofs.BehindStored.{all_front}
+use Rattle.wh_plan.proofs.FoundChanges.{HasNoEmptyValue}
 
 abbrev HasDay : DimensionRecord → Type 0
 HasDay r = is_day r.day ≡ true
-
-abbrev HasValues : DimensionRecord → Type 0
-HasValues r = AllByRecursion (λ text. text ≢ []) r.values
 
 given_some : (values : List (List ℕ)) → AllByRecursion IsGivenValue values → AllByRecursion (λ text. text ≢ []) values
 given_some values all = all_weaker IsGivenValue (λ text. text ≢ []) (λ text given. given.1) values all
@@ -37,7 +35,7 @@ module _ (limits : Limits) (commands : List Accepted) (c : Accepted) (ok : IsAcc
   days_before dim = all_weaker IsGoodRecord HasDay (λ r good. good.day) (described dim commands) (good_before dim)
 
   pub values_before : HaveNoEmptyValue commands
-  values_before dim = all_weaker IsGoodRecord HasValues (λ r good. given_some r.values good.values) (described dim commands) (good_before dim)
+  values_before dim = all_weaker IsGoodRecord HasNoEmptyValue (λ r good. given_some r.values good.values) (described dim commands) (good_before dim)
 
   pub anchors_before : (dim : Dim) → length (anchors dim commands) ≤ 9999999
   anchors_before dim =

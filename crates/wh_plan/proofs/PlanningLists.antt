@@ -9,15 +9,6 @@ pub filter_same : {X : Type 0} (p q : X → Bool) (xs : List X) → AllByRecursi
 filter_same p q [] all = refl
 filter_same p q (x ∷ xs) all = ap (λ b. cond b (x ∷ filter p xs) (filter p xs)) all.0 ∙ ap (λ ys. cond (q x) (x ∷ ys) ys) (filter_same p q xs all.1)
 
-pub filter_twice : {X : Type 0} (p : X → Bool) (xs : List X) → filter p (filter p xs) ≡ filter p xs
-filter_twice p [] = refl
-filter_twice p (x ∷ xs) =
-    let rest = filter_twice p xs in
-    elim (p x) as (λ b. (p x ≡ b) → filter p (cond b (x ∷ filter p xs) (filter p xs)) ≡ cond b (x ∷ filter p xs) (filter p xs)) [
-      | true ↦ λ e. rw e (ap (λ ys. x ∷ ys) rest)
-      | false ↦ λ e. rest
-    ] refl
-
 filter_both : {X : Type 0} (p q : X → Bool) (zs : List X) → filter (λ y. not (p y)) (filter (λ y. not (q y)) zs) ≡ filter (λ y. not (p y || q y)) zs
 filter_both p q [] = refl
 filter_both p q (z ∷ zs) =

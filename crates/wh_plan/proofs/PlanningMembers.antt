@@ -25,11 +25,12 @@ use Rattle.wh_history.proofs.Once.{once_distinct}
 use Rattle.wh_history.proofs.Owners.{all_distinct}
 use Rattle.wh_history.proofs.Places.{place-distinct_given}
 use Rattle.wh_history.proofs.Untouched.{mentions-last}
+use Rattle.wh_history.proofs.Lists.{filter_twice}
 use Rattle.wh_rows.specs.declared.rows.MemberRow.{MemberRow}
 use Rattle.wh_model.specs.Defined.{member_at}
 use Rattle.wh_plan.specs.BatchRows.{numbers_after}
 use Rattle.wh_plan.specs.NewRows.{row_of_member, new_member}
-use Rattle.wh_plan.proofs.PlanningLists.{filter_same, filter_twice, fresh_is}
+use Rattle.wh_plan.proofs.PlanningLists.{filter_same, fresh_is}
 use Rattle.wh_plan.proofs.PlanningPlaces.{filter_map_same, behind_gives, by_number}
 
 -- a natural key is among others

@@ -1,5 +1,5 @@
 -- The rows of touched members, one member after the other, are theirs in the table.
-use Rattle.std.proofs.Common.{◌≡◌, ℕ, zero, suc, ◌<◌, ◌==◌, Bool, true, false, cond, ◌||◌, List, [], ◌∷◌, ◌++◌, map, nat_lt, Option, Some, None, refl, sym, ◌∙◌, ap, subst, arith}
+use Rattle.std.proofs.Common.{◌≡◌, ℕ, zero, suc, ◌<◌, ◌==◌, Bool, true, false, cond, ◌||◌, List, [], ◌∷◌, ◌++◌, nat_lt, Option, Some, None, refl, sym, ◌∙◌, ap, subst, arith}
 use Rattle.std.specs.Prelude.{find, filter, bytes_eq}
 use Rattle.std.specs.Option.{option_or, option_and_then}
 use Rattle.std.specs.List.{list_any, AllByRecursion}
@@ -15,11 +15,10 @@ use Rattle.wh_history.specs.Keys.{at_place}
 use Rattle.wh_history.specs.Dated.{dated}
 use Rattle.wh_history.specs.Profiles.{profile_now}
 use Rattle.wh_history.specs.Rows.{starts, start_key}
-use Rattle.wh_history.specs.Accepted.{Accepted, Describes, Anchor, same_anchor, mentions, described, anchors, members, durable_key, surrogate_key, types_in, profiles_of, changes_of, member_of}
+use Rattle.wh_history.specs.Accepted.{Accepted, Describes, Anchor, same_anchor, described, anchors, members, durable_key, surrogate_key, types_in, profiles_of, changes_of, member_of}
 use Rattle.wh_history.specs.Laws.{RecordsHaveDays, IsMember}
 use Rattle.wh_history.specs.Plan.{row_of}
 use Rattle.wh_history.specs.Tables.{member_rows, numbered_row, dimension_row}
-use Rattle.wh_history.specs.declared.member.Member.{Member}
 use Rattle.wh_history.specs.declared.rows.DimRow.{DimRow}
 use Rattle.wh_history.proofs.Basics.{find_passes}
 use Rattle.wh_history.proofs.Effective.{days_in}
@@ -31,17 +30,9 @@ use Rattle.wh_history.proofs.Places.{at_place-place, anchors_decide, one_place}
 use Rattle.wh_history.proofs.Spans.{InOrder-dated}
 use Rattle.wh_plan.specs.Laws.{TouchedRowsBefore, TouchedRowsAfter}
 use Rattle.wh_plan.specs.NewRows.{of_members, naturals_told, durables_touched, rows_of_members, members_among}
-use Rattle.wh_model.proofs.GrownKeys.{all_at}
-use Rattle.wh_model.proofs.GrownMembers.{all_mapped, opened_in_all}
 use Rattle.wh_plan.proofs.PlanningMembers.{Among, all_among, naturals, mentioned_given}
-use Rattle.wh_plan.proofs.PlanningTable.{durable_given}
-
--- a member with a durable key is mentioned by its opening
-member_is : (dim : Dim) (list : List Accepted) (natural : List ℕ) → 0 < durable_key dim list natural → IsMember dim list natural
-member_is dim list natural given =
-    let P = IsMember dim list in
-    let all = all_distinct P bytes_eq (map (λ (a : Anchor). a.natural) (mentions dim list)) (all_mapped P (mentions dim list) (opened_in_all dim list)) in
-    all_at P (durable_key dim list natural) (members dim list) natural all (at_place-place bytes_eq bytes_eq-Decides natural (members dim list) given)
+use Rattle.wh_plan.proofs.PlanningTable.{durable_given, durables_of}
+use Rattle.wh_plan.proofs.FoundOwners.{mentioned_is}
 
 either : (b : Bool) (o : Option DimRow) → option_or o (cond b o None) ≡ o
 either true None = refl
@@ -166,7 +157,7 @@ all_chosen dim list [] = tt
 all_chosen dim list (n ∷ ns) =
     let rest = all_chosen dim list ns in
     elim (nat_lt 0 (durable_key dim list n)) as (λ b. (nat_lt 0 (durable_key dim list n) ≡ b) → AllByRecursion (IsMember dim list) (cond b (n ∷ members_among list dim ns) (members_among list dim ns))) [
-      | true ↦ λ e. (member_is dim list n (above_none (durable_key dim list n) e), rest)
+      | true ↦ λ e. (mentioned_is dim list n (above_none (durable_key dim list n) e), rest)
       | false ↦ λ _. rest
     ] refl
 
@@ -174,11 +165,8 @@ module _ (dim : Dim) (commands : List Accepted) (c : Accepted) (rs : List Dimens
   abbrev after : List Accepted
   after = commands ++ c ∷ []
 
-  abbrev durables_of : List (List ℕ) → List ℕ
-  durables_of ns = map (λ (m : Member). m.durable) (map (member_of dim after) ns)
-
   -- one durable key is one member
-  agree_after : (n : List ℕ) → 0 < durable_key dim after n → (ns : List (List ℕ)) → list_any (λ m. bytes_eq m n) ns ≡ list_any (λ d. d == durable_key dim after n) (durables_of ns)
+  agree_after : (n : List ℕ) → 0 < durable_key dim after n → (ns : List (List ℕ)) → list_any (λ m. bytes_eq m n) ns ≡ list_any (λ d. d == durable_key dim after n) (durables_of dim after ns)
   agree_after n given [] = refl
   agree_after n given (m ∷ ns) =
       let rest = agree_after n given ns in
@@ -192,19 +180,19 @@ module _ (dim : Dim) (commands : List Accepted) (c : Accepted) (rs : List Dimens
       ] refl in
       rw (test, rest) refl
 
-  agree_before : (n : List ℕ) → 0 < durable_key dim commands n → (ns : List (List ℕ)) → list_any (λ m. bytes_eq m n) (members_among commands dim ns) ≡ list_any (λ d. d == durable_key dim commands n) (durables_of ns)
+  agree_before : (n : List ℕ) → 0 < durable_key dim commands n → (ns : List (List ℕ)) → list_any (λ m. bytes_eq m n) (members_among commands dim ns) ≡ list_any (λ d. d == durable_key dim commands n) (durables_of dim after ns)
   agree_before n given ns =
       let stays = durable_stays dim commands (c ∷ []) n given in
       any_kept (λ m. nat_lt 0 (durable_key dim commands m)) (λ m. bytes_eq m n) (λ m e. none_above (durable_key dim commands m) (subst (λ (x : List ℕ). 0 < durable_key dim commands x) (sym ((bytes_eq-Decides m n).0 e)) given)) ns
       ∙ agree_after n (subst (λ (k : ℕ). 0 < k) (sym stays) given) ns
-      ∙ ap (λ k. list_any (λ d. d == k) (durables_of ns)) stays
+      ∙ ap (λ k. list_any (λ d. d == k) (durables_of dim after ns)) stays
 
   given_each : AllByRecursion (λ n. 0 < durable_key dim after n) (naturals_told rs)
   given_each =
       all_weaker (Among (naturals rs)) (λ n. 0 < durable_key dim after n) (mentioned_given dim commands c rs is) (naturals_told rs)
       (all_distinct (Among (naturals rs)) bytes_eq (naturals rs) (all_among (naturals rs)))
 
-  none_zero : (ns : List (List ℕ)) → AllByRecursion (λ n. 0 < durable_key dim after n) ns → list_any (λ d. d == 0) (durables_of ns) ≡ false
+  none_zero : (ns : List (List ℕ)) → AllByRecursion (λ n. 0 < durable_key dim after n) ns → list_any (λ d. d == 0) (durables_of dim after ns) ≡ false
   none_zero [] all = refl
   none_zero (n ∷ ns) all =
       let given = all.0 in
@@ -212,12 +200,12 @@ module _ (dim : Dim) (commands : List Accepted) (c : Accepted) (rs : List Dimens
 
   rows_before : RecordsHaveDays commands → (key : ℕ) → row_of key (rows_of_members commands dim (members_among commands dim (naturals_told rs))) ≡ of_members (durables_touched dim commands after rs) (dimension_row commands dim key)
   rows_before ends key =
-      table_rows dim commands ends (durables_of (naturals_told rs)) (members_among commands dim (naturals_told rs)) (all_chosen dim commands (naturals_told rs))
+      table_rows dim commands ends (durables_of dim after (naturals_told rs)) (members_among commands dim (naturals_told rs)) (all_chosen dim commands (naturals_told rs))
       (λ n given. agree_before n given (naturals_told rs)) (none_zero (naturals_told rs) given_each) key
 
   rows_after : RecordsHaveDays after → (key : ℕ) → row_of key (rows_of_members after dim (naturals_told rs)) ≡ of_members (durables_touched dim commands after rs) (dimension_row after dim key)
   rows_after ends key =
-      table_rows dim after ends (durables_of (naturals_told rs)) (naturals_told rs) (all_weaker (λ n. 0 < durable_key dim after n) (IsMember dim after) (member_is dim after) (naturals_told rs) given_each)
+      table_rows dim after ends (durables_of dim after (naturals_told rs)) (naturals_told rs) (all_weaker (λ n. 0 < durable_key dim after n) (IsMember dim after) (mentioned_is dim after) (naturals_told rs) given_each)
       (λ n given. agree_after n given (naturals_told rs)) (none_zero (naturals_told rs) given_each) key
 
 pub touched_rows_before : TouchedRowsBefore

@@ -9,12 +9,9 @@ use Rattle.wh_history.specs.Keys.{place, at_place}
 use Rattle.wh_history.proofs.Basics.{or_none}
 use Rattle.wh_history.proofs.Once.{IsOnce, apart}
 use Rattle.wh_history.proofs.Untouched.{any_none}
+use Rattle.wh_history.proofs.Trials.{get_middle}
 use Rattle.wh_plan.specs.BatchRows.{numbers_after}
 use Rattle.wh_plan.specs.NewRows.{by_place}
-
-get_here : {X : Type 0} (front : List X) (x : X) (back : List X) → slice_get (front ++ x ∷ back) (length front) ≡ Some x
-get_here [] x back = refl
-get_here (y ∷ front) x back = get_here front x back
 
 -- two functions that agree on each number
 pub filter_map_same : {X Y : Type 0} (f g : X → Option Y) → ((x : X) → f x ≡ g x) → (xs : List X) → filter_map f xs ≡ filter_map g xs
@@ -35,7 +32,7 @@ given_behind : {X Y : Type 0} (give : ℕ → X → Option Y) (whole front back 
 given_behind give whole front [] is = refl
 given_behind give whole front (x ∷ back) is =
     let look = λ (n : ℕ). option_and_then (give n) (at_place n whole) in
-    let here : at_place (suc (length front)) whole ≡ Some x = ap (λ xs. slice_get xs (length front)) is ∙ get_here front x back in
+    let here : at_place (suc (length front)) whole ≡ Some x = ap (λ xs. slice_get xs (length front)) is ∙ get_middle front back x in
     let longer = one_longer front x in
     let next : suc (length front) + 1 ≡ suc (length (front ++ x ∷ [])) = omega arith in
     let split : whole ≡ (front ++ x ∷ []) ++ back = is ∙ sym (append_assoc front (x ∷ []) back) in

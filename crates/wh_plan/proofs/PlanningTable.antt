@@ -101,17 +101,18 @@ owner_of dim list key r found =
 pub durable_given : (dim : Dim) (list : List Accepted) (key : ℕ) (a : Anchor) → at_place key (anchors dim list) ≡ Some a → 0 < durable_key dim list a.natural
 durable_given dim list key a is = all_at (λ (b : Anchor). 0 < durable_key dim list b.natural) key (anchors dim list) a (owners_given dim list) is
 
+-- the durable keys of these members
+abbrev pub durables_of : Dim → List Accepted → List (List ℕ) → List ℕ
+durables_of dim list ns = map (λ (m : Member). m.durable) (map (member_of dim list) ns)
+
 module _ (dim : Dim) (commands : List Accepted) (c : Accepted) (rs : List DimensionRecord) (is : c.content ≡ Describes dim rs) where
   abbrev after : List Accepted
   after = commands ++ c ∷ []
 
-  abbrev durables_of : List (List ℕ) → List ℕ
-  durables_of ns = map (λ (m : Member). m.durable) (map (member_of dim after) ns)
-
-  durable_among : (n : List ℕ) (ns : List (List ℕ)) → Among ns n → list_any (λ d. d == durable_key dim after n) (durables_of ns) ≡ true
+  durable_among : (n : List ℕ) (ns : List (List ℕ)) → Among ns n → list_any (λ d. d == durable_key dim after n) (durables_of dim after ns) ≡ true
   durable_among n [] h = cc
   durable_among n (m ∷ ns) h =
-      elim (bytes_eq m n) as (λ b. (bytes_eq m n ≡ b) → (b || list_any (λ m. bytes_eq m n) ns) ≡ true → ((durable_key dim after m == durable_key dim after n) || list_any (λ d. d == durable_key dim after n) (durables_of ns)) ≡ true) [
+      elim (bytes_eq m n) as (λ b. (bytes_eq m n ≡ b) → (b || list_any (λ m. bytes_eq m n) ns) ≡ true → ((durable_key dim after m == durable_key dim after n) || list_any (λ d. d == durable_key dim after n) (durables_of dim after ns)) ≡ true) [
         | true ↦ λ e _. rw (eq-eqb (durable_key dim after m) (durable_key dim after n) (ap (durable_key dim after) ((bytes_eq-Decides m n).0 e))) refl
         | false ↦ λ e t. rw (durable_among n ns t) (or_true (durable_key dim after m == durable_key dim after n))
       ] refl h

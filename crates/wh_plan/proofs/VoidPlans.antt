@@ -7,6 +7,7 @@ use Rattle.std.specs.Option.{option_or}
 use Rattle.std.proofs.lemmas.Bool.{and_parts, eqb-true}
 use Rattle.std.proofs.lemmas.Cmp.{nat_cmp_total}
 use Rattle.std.proofs.lemmas.Slice.Eq.{bytes_eq-Decides}
+use Rattle.std.proofs.lemmas.Map.Made.{option_or-none}
 use Rattle.wh_policy.specs.declared.attribute.Dim.{Dim}
 use Rattle.wh_policy.specs.declared.attribute.Dim.TheVariants.{Product, Store, Customer}
 use Rattle.wh_policy.specs.declared.format.Format.TheVariants.{One, Two}
@@ -31,13 +32,12 @@ use Rattle.wh_model.proofs.QuietRows.{dimension_same, member_same, change_same, 
 use Rattle.wh_model.proofs.SameLines.{void_stored}
 use Rattle.wh_model.proofs.StandingFacts.{void_with}
 use Rattle.wh_model.proofs.WithdrawnRows.{quiet, no_policy, format_same, fact_gone, void_new}
+use Rattle.wh_model.proofs.CountedLines.{is_absent}
 use Rattle.wh_plan.specs.Edits.{AreEdits, IsTablePlan, IsFactPlan, NeedsFact, edited_line, rows_of_dimension}
 use Rattle.wh_plan.specs.VoidEdits.{by_line, fact_removed, void_edits, void_of}
 use Rattle.wh_plan.proofs.BatchPlans.{meta_stays}
 use Rattle.wh_plan.proofs.FactPlans as facts
-use Rattle.wh_plan.proofs.GrownFacts.{or_none}
 use Rattle.wh_plan.proofs.Lines.{on_line, Once, edits_ascend, edit_of_line}
-use Rattle.wh_plan.proofs.MovedLists.{is_absent}
 use Rattle.wh_plan.proofs.OwnRow.{own_row_plan}
 use Rattle.wh_plan.proofs.Plans.{empty_plan, none_needed, put_needed}
 
@@ -144,7 +144,7 @@ module _ (commands : List Accepted) (c : Accepted) (lines : List VoidRecord) (is
             let there = stands commands line lines all gone in
             let new : Option VoidRow = Some (record { ticket = line.ticket; line = line.line; command = number }) in
             subst (λ o. Needs line o (option_or o new) (option_map Put new)) (sym there.2) (put_needed line new)
-        | false ↦ λ _. none_needed line (void_at commands line) (option_or (void_at commands line) None) (or_none (void_at commands line))
+        | false ↦ λ _. none_needed line (void_at commands line) (option_or (void_at commands line) None) (option_or-none (void_at commands line))
       ] refl))
 
   rows_put : (fs : List VoidRow) → IsPermutation rows fs → IsSorted by_line fs → IsTablePlan row.void (void_at commands) (void_at after) (map Put fs)

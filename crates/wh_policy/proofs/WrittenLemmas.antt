@@ -127,7 +127,8 @@ tied Less = inr (λ found more. refl)
 tied Equal = inl refl
 tied Greater = inr (λ found more. refl)
 
-reverse_tied : (o : Ordering) → o ≡ ordering_reverse o → o ≡ Equal
+-- what is as it is the other way round is a tie
+pub reverse_tied : (o : Ordering) → o ≡ ordering_reverse o → o ≡ Equal
 reverse_tied Less e = absurd cc
 reverse_tied Equal e = refl
 reverse_tied Greater e = absurd cc

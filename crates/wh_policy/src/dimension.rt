@@ -15,6 +15,9 @@ use std::alloc::Global;
 use toml::{Table, Value as TomlValue};
 use wh_day::{ParseError, Value};
 
+/// The most bytes of an attribute's name.
+pub const NAME_LIMIT: usize = 24;
+
 fn is_name_byte(byte: u8) -> bool
     ensures { result ≡ is_name_byte byte }
 {
@@ -33,7 +36,7 @@ fn is_word(bytes: &[u8]) -> bool
     match bytes {
         [] => false,
         [first, rest @ ..] => {
-            first.is_ascii_lowercase() && has_name_bytes(rest) && rest.len() < 24
+            first.is_ascii_lowercase() && has_name_bytes(rest) && rest.len() < NAME_LIMIT
         }
     }
 }

@@ -15,6 +15,7 @@ mod record;
 mod years;
 
 pub use attribute::{Attribute, AttributeType, Attributes, Dim};
+pub use dimension::NAME_LIMIT;
 pub use document::POLICY_LIMIT;
 pub use fault::PolicyFault;
 pub use format::Format;

@@ -7,7 +7,8 @@ use Rattle.clap.specs.declared.error.kind.ErrorKind.TheVariants.{MissingSubcomma
 use Rattle.clap.proofs.OnLiterals.{clap_on_literals}
 use Rattle.wh_program.specs.CommandLine.{CommandLine, Trial, Init, Load, Migrate, Upgrade, Deliver, Plan, Explain, Report, Reports, Dump, Check, Status, program_app, words_of, is_operand, has_operands, named, Says}
 use Rattle.wh_program.specs.Task.{task_of, no_line, when_none, faults_in, asked_by}
-use Rattle.wh_program.proofs.CommandLineLemmas.{IsPlain, plain, both, found}
+use Rattle.wh_program.proofs.CommandLineLemmas.{IsPlain, plain, found}
+use Rattle.wh_history.proofs.Basics.{both_true}
 
 -- ---- none in the words of a command
 
@@ -75,46 +76,46 @@ status_faultless f f-is = rw (f-is.no_end, f-is.no_long, f-is.no_short) refl
 
 pub faultless : (line : CommandLine) → has_operands line ≡ true → faults_in (words_of line) ≡ []
 faultless (Trial d p None) is =
-    let d-is = both (is_operand d) _ is in
-    let p-is = both (is_operand p) _ d-is.1 in
+    let d-is = both_true (is_operand d) _ is in
+    let p-is = both_true (is_operand p) _ d-is.1 in
     trial_faultless d p (plain d d-is.0) (plain p p-is.0)
 faultless (Trial d p (Some q)) is =
-    let d-is = both (is_operand d) _ is in
-    let p-is = both (is_operand p) _ d-is.1 in
+    let d-is = both_true (is_operand d) _ is in
+    let p-is = both_true (is_operand p) _ d-is.1 in
     trial_under_faultless d p q (plain d d-is.0) (plain p p-is.0) (plain q p-is.1)
-faultless (Init f p) is = let f-is = both (is_operand f) _ is in init_faultless f p (plain f f-is.0) (plain p f-is.1)
+faultless (Init f p) is = let f-is = both_true (is_operand f) _ is in init_faultless f p (plain f f-is.0) (plain p f-is.1)
 faultless (Load f k i p) is =
-    let f-is = both (is_operand f) _ is in
-    let k-is = both (is_operand k) _ f-is.1 in
-    let i-is = both (is_operand i) _ k-is.1 in
+    let f-is = both_true (is_operand f) _ is in
+    let k-is = both_true (is_operand k) _ f-is.1 in
+    let i-is = both_true (is_operand i) _ k-is.1 in
     load_faultless f k i p (plain f f-is.0) (plain k k-is.0) (plain i i-is.0) (plain p i-is.1)
 faultless (Migrate f i p) is =
-    let f-is = both (is_operand f) _ is in
-    let i-is = both (is_operand i) _ f-is.1 in
+    let f-is = both_true (is_operand f) _ is in
+    let i-is = both_true (is_operand i) _ f-is.1 in
     migrate_faultless f i p (plain f f-is.0) (plain i i-is.0) (plain p i-is.1)
-faultless (Upgrade f i) is = let f-is = both (is_operand f) _ is in upgrade_faultless f i (plain f f-is.0) (plain i f-is.1)
-faultless (Deliver f m) is = let f-is = both (is_operand f) _ is in deliver_faultless f m (plain f f-is.0) (plain m f-is.1)
+faultless (Upgrade f i) is = let f-is = both_true (is_operand f) _ is in upgrade_faultless f i (plain f f-is.0) (plain i f-is.1)
+faultless (Deliver f m) is = let f-is = both_true (is_operand f) _ is in deliver_faultless f m (plain f f-is.0) (plain m f-is.1)
 faultless (Plan f k i p) is =
-    let f-is = both (is_operand f) _ is in
-    let k-is = both (is_operand k) _ f-is.1 in
-    let i-is = both (is_operand i) _ k-is.1 in
+    let f-is = both_true (is_operand f) _ is in
+    let k-is = both_true (is_operand k) _ f-is.1 in
+    let i-is = both_true (is_operand i) _ k-is.1 in
     plan_faultless f k i p (plain f f-is.0) (plain k k-is.0) (plain i i-is.0) (plain p i-is.1)
 faultless (Explain f k None) is =
-    let f-is = both (is_operand f) _ is in
-    let k-is = both (is_operand k) _ f-is.1 in
+    let f-is = both_true (is_operand f) _ is in
+    let k-is = both_true (is_operand k) _ f-is.1 in
     explain_faultless f k (plain f f-is.0) (plain k k-is.0)
 faultless (Explain f k (Some i)) is =
-    let f-is = both (is_operand f) _ is in
-    let k-is = both (is_operand k) _ f-is.1 in
+    let f-is = both_true (is_operand f) _ is in
+    let k-is = both_true (is_operand k) _ f-is.1 in
     explain_input_faultless f k i (plain f f-is.0) (plain k k-is.0) (plain i k-is.1)
 faultless (Report f a m d t) is =
-    let f-is = both (is_operand f) _ is in
-    let a-is = both (is_operand a) _ f-is.1 in
-    let m-is = both (is_operand m) _ a-is.1 in
-    let d-is = both (is_operand d) _ m-is.1 in
+    let f-is = both_true (is_operand f) _ is in
+    let a-is = both_true (is_operand a) _ f-is.1 in
+    let m-is = both_true (is_operand m) _ a-is.1 in
+    let d-is = both_true (is_operand d) _ m-is.1 in
     report_faultless f a m d t (plain f f-is.0) (plain a a-is.0) (plain m m-is.0) (plain d d-is.0) (plain t d-is.1)
-faultless (Reports f l) is = let f-is = both (is_operand f) _ is in reports_faultless f l (plain f f-is.0) (plain l f-is.1)
-faultless (Dump f t) is = let f-is = both (is_operand f) _ is in dump_faultless f t (plain f f-is.0) (plain t f-is.1)
+faultless (Reports f l) is = let f-is = both_true (is_operand f) _ is in reports_faultless f l (plain f f-is.0) (plain l f-is.1)
+faultless (Dump f t) is = let f-is = both_true (is_operand f) _ is in dump_faultless f t (plain f f-is.0) (plain t f-is.1)
 faultless (Check f) is = check_faultless f (plain f is)
 faultless (Status f) is = status_faultless f (plain f is)
 

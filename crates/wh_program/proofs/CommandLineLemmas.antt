@@ -1,17 +1,14 @@
 -- What clap makes of the words of a command.
-use Rattle.std.proofs.Common.{◌≡◌, [], ◌∷◌, refl, sym, true, false, Bool, ◌==◌, ◌&&◌, Some, None, not, bytes_eq, true≢false}
+use Rattle.std.proofs.Common.{◌≡◌, [], ◌∷◌, refl, true, false, Bool, ◌==◌, Some, None, not, bytes_eq}
 use Rattle.clap.specs.Words.{is_simple, takes, subcommand_of, Text}
 use Rattle.clap.specs.Lexer.{long_of, short_of}
 use Rattle.clap.proofs.OnLiterals.{clap_on_literals}
 use Rattle.wh_program.specs.CommandLine.{CommandLine, Trial, Init, Load, Migrate, Upgrade, Deliver, Plan, Explain, Report, Reports, Dump, Check, Status, program_app, words_of, is_operand, has_operands, named}
+use Rattle.wh_history.proofs.Basics.{both_true}
 
 not-true : (b : Bool) → not b ≡ true → b ≡ false
 not-true true h = cc
 not-true false h = refl
-
-pub both : (a b : Bool) → (a && b) ≡ true → (a ≡ true) × (b ≡ true)
-both true b h = (refl, h)
-both false b h = absurd (true≢false (sym h))
 
 -- what clap asks of a word: whether it is an option, and whether it ends the options
 pub record IsPlain (word : Text) : Type 0 where
@@ -156,91 +153,91 @@ status_named f f-is = rw (f-is.no_end, f-is.no_long, f-is.no_short) refl
 -- clap takes the words of a command, whatever the operands
 pub taken : (line : CommandLine) → has_operands line ≡ true → takes program_app (words_of line) ≡ true
 taken (Trial d p None) is =
-    let d-is = both (is_operand d) _ is in
-    let p-is = both (is_operand p) _ d-is.1 in
+    let d-is = both_true (is_operand d) _ is in
+    let p-is = both_true (is_operand p) _ d-is.1 in
     trial_taken d p (plain d d-is.0) (plain p p-is.0)
 taken (Trial d p (Some q)) is =
-    let d-is = both (is_operand d) _ is in
-    let p-is = both (is_operand p) _ d-is.1 in
+    let d-is = both_true (is_operand d) _ is in
+    let p-is = both_true (is_operand p) _ d-is.1 in
     trial_under_taken d p q (plain d d-is.0) (plain p p-is.0) (plain q p-is.1)
-taken (Init f p) is = let f-is = both (is_operand f) _ is in init_taken f p (plain f f-is.0) (plain p f-is.1)
+taken (Init f p) is = let f-is = both_true (is_operand f) _ is in init_taken f p (plain f f-is.0) (plain p f-is.1)
 taken (Load f k i p) is =
-    let f-is = both (is_operand f) _ is in
-    let k-is = both (is_operand k) _ f-is.1 in
-    let i-is = both (is_operand i) _ k-is.1 in
+    let f-is = both_true (is_operand f) _ is in
+    let k-is = both_true (is_operand k) _ f-is.1 in
+    let i-is = both_true (is_operand i) _ k-is.1 in
     load_taken f k i p (plain f f-is.0) (plain k k-is.0) (plain i i-is.0) (plain p i-is.1)
 taken (Migrate f i p) is =
-    let f-is = both (is_operand f) _ is in
-    let i-is = both (is_operand i) _ f-is.1 in
+    let f-is = both_true (is_operand f) _ is in
+    let i-is = both_true (is_operand i) _ f-is.1 in
     migrate_taken f i p (plain f f-is.0) (plain i i-is.0) (plain p i-is.1)
-taken (Upgrade f i) is = let f-is = both (is_operand f) _ is in upgrade_taken f i (plain f f-is.0) (plain i f-is.1)
-taken (Deliver f m) is = let f-is = both (is_operand f) _ is in deliver_taken f m (plain f f-is.0) (plain m f-is.1)
+taken (Upgrade f i) is = let f-is = both_true (is_operand f) _ is in upgrade_taken f i (plain f f-is.0) (plain i f-is.1)
+taken (Deliver f m) is = let f-is = both_true (is_operand f) _ is in deliver_taken f m (plain f f-is.0) (plain m f-is.1)
 taken (Plan f k i p) is =
-    let f-is = both (is_operand f) _ is in
-    let k-is = both (is_operand k) _ f-is.1 in
-    let i-is = both (is_operand i) _ k-is.1 in
+    let f-is = both_true (is_operand f) _ is in
+    let k-is = both_true (is_operand k) _ f-is.1 in
+    let i-is = both_true (is_operand i) _ k-is.1 in
     plan_taken f k i p (plain f f-is.0) (plain k k-is.0) (plain i i-is.0) (plain p i-is.1)
 taken (Explain f k None) is =
-    let f-is = both (is_operand f) _ is in
-    let k-is = both (is_operand k) _ f-is.1 in
+    let f-is = both_true (is_operand f) _ is in
+    let k-is = both_true (is_operand k) _ f-is.1 in
     explain_taken f k (plain f f-is.0) (plain k k-is.0)
 taken (Explain f k (Some i)) is =
-    let f-is = both (is_operand f) _ is in
-    let k-is = both (is_operand k) _ f-is.1 in
+    let f-is = both_true (is_operand f) _ is in
+    let k-is = both_true (is_operand k) _ f-is.1 in
     explain_input_taken f k i (plain f f-is.0) (plain k k-is.0) (plain i k-is.1)
 taken (Report f a m d t) is =
-    let f-is = both (is_operand f) _ is in
-    let a-is = both (is_operand a) _ f-is.1 in
-    let m-is = both (is_operand m) _ a-is.1 in
-    let d-is = both (is_operand d) _ m-is.1 in
+    let f-is = both_true (is_operand f) _ is in
+    let a-is = both_true (is_operand a) _ f-is.1 in
+    let m-is = both_true (is_operand m) _ a-is.1 in
+    let d-is = both_true (is_operand d) _ m-is.1 in
     report_taken f a m d t (plain f f-is.0) (plain a a-is.0) (plain m m-is.0) (plain d d-is.0) (plain t d-is.1)
-taken (Reports f l) is = let f-is = both (is_operand f) _ is in reports_taken f l (plain f f-is.0) (plain l f-is.1)
-taken (Dump f t) is = let f-is = both (is_operand f) _ is in dump_taken f t (plain f f-is.0) (plain t f-is.1)
+taken (Reports f l) is = let f-is = both_true (is_operand f) _ is in reports_taken f l (plain f f-is.0) (plain l f-is.1)
+taken (Dump f t) is = let f-is = both_true (is_operand f) _ is in dump_taken f t (plain f f-is.0) (plain t f-is.1)
 taken (Check f) is = check_taken f (plain f is)
 taken (Status f) is = status_taken f (plain f is)
 
 -- and finds the command with its operands
 pub found : (line : CommandLine) → has_operands line ≡ true → named (subcommand_of program_app (words_of line)) ≡ Some line
 found (Trial d p None) is =
-    let d-is = both (is_operand d) _ is in
-    let p-is = both (is_operand p) _ d-is.1 in
+    let d-is = both_true (is_operand d) _ is in
+    let p-is = both_true (is_operand p) _ d-is.1 in
     trial_named d p (plain d d-is.0) (plain p p-is.0)
 found (Trial d p (Some q)) is =
-    let d-is = both (is_operand d) _ is in
-    let p-is = both (is_operand p) _ d-is.1 in
+    let d-is = both_true (is_operand d) _ is in
+    let p-is = both_true (is_operand p) _ d-is.1 in
     trial_under_named d p q (plain d d-is.0) (plain p p-is.0) (plain q p-is.1)
-found (Init f p) is = let f-is = both (is_operand f) _ is in init_named f p (plain f f-is.0) (plain p f-is.1)
+found (Init f p) is = let f-is = both_true (is_operand f) _ is in init_named f p (plain f f-is.0) (plain p f-is.1)
 found (Load f k i p) is =
-    let f-is = both (is_operand f) _ is in
-    let k-is = both (is_operand k) _ f-is.1 in
-    let i-is = both (is_operand i) _ k-is.1 in
+    let f-is = both_true (is_operand f) _ is in
+    let k-is = both_true (is_operand k) _ f-is.1 in
+    let i-is = both_true (is_operand i) _ k-is.1 in
     load_named f k i p (plain f f-is.0) (plain k k-is.0) (plain i i-is.0) (plain p i-is.1)
 found (Migrate f i p) is =
-    let f-is = both (is_operand f) _ is in
-    let i-is = both (is_operand i) _ f-is.1 in
+    let f-is = both_true (is_operand f) _ is in
+    let i-is = both_true (is_operand i) _ f-is.1 in
     migrate_named f i p (plain f f-is.0) (plain i i-is.0) (plain p i-is.1)
-found (Upgrade f i) is = let f-is = both (is_operand f) _ is in upgrade_named f i (plain f f-is.0) (plain i f-is.1)
-found (Deliver f m) is = let f-is = both (is_operand f) _ is in deliver_named f m (plain f f-is.0) (plain m f-is.1)
+found (Upgrade f i) is = let f-is = both_true (is_operand f) _ is in upgrade_named f i (plain f f-is.0) (plain i f-is.1)
+found (Deliver f m) is = let f-is = both_true (is_operand f) _ is in deliver_named f m (plain f f-is.0) (plain m f-is.1)
 found (Plan f k i p) is =
-    let f-is = both (is_operand f) _ is in
-    let k-is = both (is_operand k) _ f-is.1 in
-    let i-is = both (is_operand i) _ k-is.1 in
+    let f-is = both_true (is_operand f) _ is in
+    let k-is = both_true (is_operand k) _ f-is.1 in
+    let i-is = both_true (is_operand i) _ k-is.1 in
     plan_named f k i p (plain f f-is.0) (plain k k-is.0) (plain i i-is.0) (plain p i-is.1)
 found (Explain f k None) is =
-    let f-is = both (is_operand f) _ is in
-    let k-is = both (is_operand k) _ f-is.1 in
+    let f-is = both_true (is_operand f) _ is in
+    let k-is = both_true (is_operand k) _ f-is.1 in
     explain_named f k (plain f f-is.0) (plain k k-is.0)
 found (Explain f k (Some i)) is =
-    let f-is = both (is_operand f) _ is in
-    let k-is = both (is_operand k) _ f-is.1 in
+    let f-is = both_true (is_operand f) _ is in
+    let k-is = both_true (is_operand k) _ f-is.1 in
     explain_input_named f k i (plain f f-is.0) (plain k k-is.0) (plain i k-is.1)
 found (Report f a m d t) is =
-    let f-is = both (is_operand f) _ is in
-    let a-is = both (is_operand a) _ f-is.1 in
-    let m-is = both (is_operand m) _ a-is.1 in
-    let d-is = both (is_operand d) _ m-is.1 in
+    let f-is = both_true (is_operand f) _ is in
+    let a-is = both_true (is_operand a) _ f-is.1 in
+    let m-is = both_true (is_operand m) _ a-is.1 in
+    let d-is = both_true (is_operand d) _ m-is.1 in
     report_named f a m d t (plain f f-is.0) (plain a a-is.0) (plain m m-is.0) (plain d d-is.0) (plain t d-is.1)
-found (Reports f l) is = let f-is = both (is_operand f) _ is in reports_named f l (plain f f-is.0) (plain l f-is.1)
-found (Dump f t) is = let f-is = both (is_operand f) _ is in dump_named f t (plain f f-is.0) (plain t f-is.1)
+found (Reports f l) is = let f-is = both_true (is_operand f) _ is in reports_named f l (plain f f-is.0) (plain l f-is.1)
+found (Dump f t) is = let f-is = both_true (is_operand f) _ is in dump_named f t (plain f f-is.0) (plain t f-is.1)
 found (Check f) is = check_named f (plain f is)
 found (Status f) is = status_named f (plain f is)

@@ -1,21 +1,17 @@
 -- A warehouse in memory.
-use Rattle.std.proofs.Common.{◌≡◌, refl, sym, ap, subst, Option, None}
+use Rattle.std.proofs.Common.{◌≡◌, sym, ap, subst, Option, None}
 use Rattle.sqlite.specs.Held.{Held, state}
 use Rattle.sqlite.specs.Steps.{over_memory, IsEmpty}
-use Rattle.sqlite.specs.Effect.{Database, IsDatabase}
 use Rattle.sqlite_trees.specs.declared.memory.MemStore.{MemStore}
 use Rattle.wh_rows.specs.Schema.{no_schema}
 use Rattle.wh_rows.specs.AtRest.{AreTrees, IsAtRest}
 use Rattle.wh_program.specs.Standing.{DatabaseContent, Nothing, Standing, Unknown, Rests, LeftAt, IsAt, IsKept}
-
--- a database with no object in it
-trees_are : (db : Database) → IsDatabase db → db.schema ≡ no_schema → AreTrees None db.trees
-trees_are db sound schema = record { schema = refl; sound = subst (λ s. IsDatabase (record { schema = s; trees = db.trees })) schema sound; tables = tt }
+use Rattle.wh_store.proofs.Opened.{no_object}
 
 empty_rests : (c : Held MemStore) → IsEmpty (state over_memory c) → IsAtRest None (state over_memory c)
 empty_rests c (opens, live, schema) =
     let both = live opens.is_open in
-    let last = trees_are (state over_memory c).committed both.1 (subst (λ db. db.schema ≡ no_schema) opens.clean schema) in
+    let last = no_object (state over_memory c).committed both.1 (subst (λ db. db.schema ≡ no_schema) opens.clean schema) in
     record {
       is_open = opens.is_open;
       autocommit = opens.autocommit;

@@ -1,5 +1,5 @@
 -- Of words none of which is an option, those that clap takes are the words of a command.
-use Rattle.std.proofs.Common.{◌≡◌, ◌⊎◌, ⊎_elim, inl, inr, [], ◌∷◌, List, refl, sym, subst, ap, ◌∙◌, true, false, Bool, ◌&&◌, codes, Option, Some, None, bytes_eq}
+use Rattle.std.proofs.Common.{◌≡◌, ◌⊎◌, ⊎_elim, inl, inr, [], ◌∷◌, List, refl, sym, subst, ap, ◌∙◌, true, false, Bool, codes, Option, Some, None, bytes_eq}
 use Rattle.std.specs.Prelude.{fold, find, unwrap_or}
 use Rattle.std.specs.List.{list_all}
 use Rattle.std.specs.Option.{option_map_or}
@@ -16,11 +16,10 @@ use Rattle.clap.proofs.OnLiterals.{clap_on_literals}
 use Rattle.clap.proofs.WalkLemmas.{walk_stopped}
 use Rattle.wh_program.specs.CommandLine.{CommandLine, Trial, Init, Load, Migrate, Upgrade, Deliver, Plan, Explain, Report, Reports, Dump, Check, Status, program_app, is_operand, Says}
 use Rattle.wh_program.specs.Task.{faults_in, asked_by}
-use Rattle.wh_program.proofs.CommandLineLemmas.{IsPlain, plain, both}
+use Rattle.wh_program.proofs.CommandLineLemmas.{IsPlain, plain}
 use Rattle.wh_program.proofs.CommandFaults.{not_asked, no_words}
-
-both_are : {a b : Bool} → a ≡ true → b ≡ true → (a && b) ≡ true
-both_are e f = λ i. e i && f i
+use Rattle.wh_history.proofs.Basics.{both_true}
+use Rattle.wh_rows.proofs.ColumnLemmas.{both}
 
 -- the words are those of a command, or they ask for nothing
 abbrev Fits : List Text → Type 0
@@ -81,16 +80,16 @@ trial_and_more d p x more d-is p-is x-is = rw (d-is.no_end, d-is.no_long, d-is.n
 trial_fits : (rest : List Text) → list_all is_operand rest ≡ true → Fits (codes "trial" ∷ rest)
 trial_fits [] is = inr (trial_into ([]) MissingRequiredArgument [] trial_lacks_0)
 trial_fits (d ∷ []) is =
-    let d-is = both (is_operand d) _ is in
+    let d-is = both_true (is_operand d) _ is in
     inr (trial_into (d ∷ []) MissingRequiredArgument [] (trial_lacks_1 d (plain d d-is.0)))
 trial_fits (d ∷ p ∷ []) is =
-    let d-is = both (is_operand d) _ is in
-    let p-is = both (is_operand p) _ d-is.1 in
-    inl (Trial d p None, record { words_are = refl; operands = both_are d-is.0 (both_are p-is.0 refl) })
+    let d-is = both_true (is_operand d) _ is in
+    let p-is = both_true (is_operand p) _ d-is.1 in
+    inl (Trial d p None, record { words_are = refl; operands = both d-is.0 (both p-is.0 refl) })
 trial_fits (d ∷ p ∷ x ∷ more) is =
-    let d-is = both (is_operand d) _ is in
-    let p-is = both (is_operand p) _ d-is.1 in
-    let x-is = both (is_operand x) _ p-is.1 in
+    let d-is = both_true (is_operand d) _ is in
+    let p-is = both_true (is_operand p) _ d-is.1 in
+    let x-is = both_true (is_operand x) _ p-is.1 in
     inr (trial_into (d ∷ p ∷ x ∷ more) UnknownArgument [] (stray (leaf (codes "trial")) (d ∷ p ∷ x ∷ more) UnknownArgument [] (trial_and_more d p x more (plain d d-is.0) (plain p p-is.0) (plain x x-is.0))))
 
 -- ---- init
@@ -114,16 +113,16 @@ init_and_more f p x more f-is p-is x-is = rw (f-is.no_end, f-is.no_long, f-is.no
 init_fits : (rest : List Text) → list_all is_operand rest ≡ true → Fits (codes "init" ∷ rest)
 init_fits [] is = inr (init_into ([]) MissingRequiredArgument [] init_lacks_0)
 init_fits (f ∷ []) is =
-    let f-is = both (is_operand f) _ is in
+    let f-is = both_true (is_operand f) _ is in
     inr (init_into (f ∷ []) MissingRequiredArgument [] (init_lacks_1 f (plain f f-is.0)))
 init_fits (f ∷ p ∷ []) is =
-    let f-is = both (is_operand f) _ is in
-    let p-is = both (is_operand p) _ f-is.1 in
-    inl (Init f p, record { words_are = refl; operands = both_are f-is.0 p-is.0 })
+    let f-is = both_true (is_operand f) _ is in
+    let p-is = both_true (is_operand p) _ f-is.1 in
+    inl (Init f p, record { words_are = refl; operands = both f-is.0 p-is.0 })
 init_fits (f ∷ p ∷ x ∷ more) is =
-    let f-is = both (is_operand f) _ is in
-    let p-is = both (is_operand p) _ f-is.1 in
-    let x-is = both (is_operand x) _ p-is.1 in
+    let f-is = both_true (is_operand f) _ is in
+    let p-is = both_true (is_operand p) _ f-is.1 in
+    let x-is = both_true (is_operand x) _ p-is.1 in
     inr (init_into (f ∷ p ∷ x ∷ more) UnknownArgument [] (stray (leaf (codes "init")) (f ∷ p ∷ x ∷ more) UnknownArgument [] (init_and_more f p x more (plain f f-is.0) (plain p p-is.0) (plain x x-is.0))))
 
 -- ---- load
@@ -155,29 +154,29 @@ load_and_more f k i p x more f-is k-is i-is p-is x-is = rw (f-is.no_end, f-is.no
 load_fits : (rest : List Text) → list_all is_operand rest ≡ true → Fits (codes "load" ∷ rest)
 load_fits [] is = inr (load_into ([]) MissingRequiredArgument [] load_lacks_0)
 load_fits (f ∷ []) is =
-    let f-is = both (is_operand f) _ is in
+    let f-is = both_true (is_operand f) _ is in
     inr (load_into (f ∷ []) MissingRequiredArgument [] (load_lacks_1 f (plain f f-is.0)))
 load_fits (f ∷ k ∷ []) is =
-    let f-is = both (is_operand f) _ is in
-    let k-is = both (is_operand k) _ f-is.1 in
+    let f-is = both_true (is_operand f) _ is in
+    let k-is = both_true (is_operand k) _ f-is.1 in
     inr (load_into (f ∷ k ∷ []) MissingRequiredArgument [] (load_lacks_2 f k (plain f f-is.0) (plain k k-is.0)))
 load_fits (f ∷ k ∷ i ∷ []) is =
-    let f-is = both (is_operand f) _ is in
-    let k-is = both (is_operand k) _ f-is.1 in
-    let i-is = both (is_operand i) _ k-is.1 in
+    let f-is = both_true (is_operand f) _ is in
+    let k-is = both_true (is_operand k) _ f-is.1 in
+    let i-is = both_true (is_operand i) _ k-is.1 in
     inr (load_into (f ∷ k ∷ i ∷ []) MissingRequiredArgument [] (load_lacks_3 f k i (plain f f-is.0) (plain k k-is.0) (plain i i-is.0)))
 load_fits (f ∷ k ∷ i ∷ p ∷ []) is =
-    let f-is = both (is_operand f) _ is in
-    let k-is = both (is_operand k) _ f-is.1 in
-    let i-is = both (is_operand i) _ k-is.1 in
-    let p-is = both (is_operand p) _ i-is.1 in
-    inl (Load f k i p, record { words_are = refl; operands = both_are f-is.0 (both_are k-is.0 (both_are i-is.0 p-is.0)) })
+    let f-is = both_true (is_operand f) _ is in
+    let k-is = both_true (is_operand k) _ f-is.1 in
+    let i-is = both_true (is_operand i) _ k-is.1 in
+    let p-is = both_true (is_operand p) _ i-is.1 in
+    inl (Load f k i p, record { words_are = refl; operands = both f-is.0 (both k-is.0 (both i-is.0 p-is.0)) })
 load_fits (f ∷ k ∷ i ∷ p ∷ x ∷ more) is =
-    let f-is = both (is_operand f) _ is in
-    let k-is = both (is_operand k) _ f-is.1 in
-    let i-is = both (is_operand i) _ k-is.1 in
-    let p-is = both (is_operand p) _ i-is.1 in
-    let x-is = both (is_operand x) _ p-is.1 in
+    let f-is = both_true (is_operand f) _ is in
+    let k-is = both_true (is_operand k) _ f-is.1 in
+    let i-is = both_true (is_operand i) _ k-is.1 in
+    let p-is = both_true (is_operand p) _ i-is.1 in
+    let x-is = both_true (is_operand x) _ p-is.1 in
     inr (load_into (f ∷ k ∷ i ∷ p ∷ x ∷ more) UnknownArgument [] (stray (leaf (codes "load")) (f ∷ k ∷ i ∷ p ∷ x ∷ more) UnknownArgument [] (load_and_more f k i p x more (plain f f-is.0) (plain k k-is.0) (plain i i-is.0) (plain p p-is.0) (plain x x-is.0))))
 
 -- ---- migrate
@@ -205,22 +204,22 @@ migrate_and_more f i p x more f-is i-is p-is x-is = rw (f-is.no_end, f-is.no_lon
 migrate_fits : (rest : List Text) → list_all is_operand rest ≡ true → Fits (codes "migrate" ∷ rest)
 migrate_fits [] is = inr (migrate_into ([]) MissingRequiredArgument [] migrate_lacks_0)
 migrate_fits (f ∷ []) is =
-    let f-is = both (is_operand f) _ is in
+    let f-is = both_true (is_operand f) _ is in
     inr (migrate_into (f ∷ []) MissingRequiredArgument [] (migrate_lacks_1 f (plain f f-is.0)))
 migrate_fits (f ∷ i ∷ []) is =
-    let f-is = both (is_operand f) _ is in
-    let i-is = both (is_operand i) _ f-is.1 in
+    let f-is = both_true (is_operand f) _ is in
+    let i-is = both_true (is_operand i) _ f-is.1 in
     inr (migrate_into (f ∷ i ∷ []) MissingRequiredArgument [] (migrate_lacks_2 f i (plain f f-is.0) (plain i i-is.0)))
 migrate_fits (f ∷ i ∷ p ∷ []) is =
-    let f-is = both (is_operand f) _ is in
-    let i-is = both (is_operand i) _ f-is.1 in
-    let p-is = both (is_operand p) _ i-is.1 in
-    inl (Migrate f i p, record { words_are = refl; operands = both_are f-is.0 (both_are i-is.0 p-is.0) })
+    let f-is = both_true (is_operand f) _ is in
+    let i-is = both_true (is_operand i) _ f-is.1 in
+    let p-is = both_true (is_operand p) _ i-is.1 in
+    inl (Migrate f i p, record { words_are = refl; operands = both f-is.0 (both i-is.0 p-is.0) })
 migrate_fits (f ∷ i ∷ p ∷ x ∷ more) is =
-    let f-is = both (is_operand f) _ is in
-    let i-is = both (is_operand i) _ f-is.1 in
-    let p-is = both (is_operand p) _ i-is.1 in
-    let x-is = both (is_operand x) _ p-is.1 in
+    let f-is = both_true (is_operand f) _ is in
+    let i-is = both_true (is_operand i) _ f-is.1 in
+    let p-is = both_true (is_operand p) _ i-is.1 in
+    let x-is = both_true (is_operand x) _ p-is.1 in
     inr (migrate_into (f ∷ i ∷ p ∷ x ∷ more) UnknownArgument [] (stray (leaf (codes "migrate")) (f ∷ i ∷ p ∷ x ∷ more) UnknownArgument [] (migrate_and_more f i p x more (plain f f-is.0) (plain i i-is.0) (plain p p-is.0) (plain x x-is.0))))
 
 -- ---- upgrade
@@ -244,16 +243,16 @@ upgrade_and_more f i x more f-is i-is x-is = rw (f-is.no_end, f-is.no_long, f-is
 upgrade_fits : (rest : List Text) → list_all is_operand rest ≡ true → Fits (codes "upgrade" ∷ rest)
 upgrade_fits [] is = inr (upgrade_into ([]) MissingRequiredArgument [] upgrade_lacks_0)
 upgrade_fits (f ∷ []) is =
-    let f-is = both (is_operand f) _ is in
+    let f-is = both_true (is_operand f) _ is in
     inr (upgrade_into (f ∷ []) MissingRequiredArgument [] (upgrade_lacks_1 f (plain f f-is.0)))
 upgrade_fits (f ∷ i ∷ []) is =
-    let f-is = both (is_operand f) _ is in
-    let i-is = both (is_operand i) _ f-is.1 in
-    inl (Upgrade f i, record { words_are = refl; operands = both_are f-is.0 i-is.0 })
+    let f-is = both_true (is_operand f) _ is in
+    let i-is = both_true (is_operand i) _ f-is.1 in
+    inl (Upgrade f i, record { words_are = refl; operands = both f-is.0 i-is.0 })
 upgrade_fits (f ∷ i ∷ x ∷ more) is =
-    let f-is = both (is_operand f) _ is in
-    let i-is = both (is_operand i) _ f-is.1 in
-    let x-is = both (is_operand x) _ i-is.1 in
+    let f-is = both_true (is_operand f) _ is in
+    let i-is = both_true (is_operand i) _ f-is.1 in
+    let x-is = both_true (is_operand x) _ i-is.1 in
     inr (upgrade_into (f ∷ i ∷ x ∷ more) UnknownArgument [] (stray (leaf (codes "upgrade")) (f ∷ i ∷ x ∷ more) UnknownArgument [] (upgrade_and_more f i x more (plain f f-is.0) (plain i i-is.0) (plain x x-is.0))))
 
 -- ---- deliver
@@ -277,16 +276,16 @@ deliver_and_more f m x more f-is m-is x-is = rw (f-is.no_end, f-is.no_long, f-is
 deliver_fits : (rest : List Text) → list_all is_operand rest ≡ true → Fits (codes "deliver" ∷ rest)
 deliver_fits [] is = inr (deliver_into ([]) MissingRequiredArgument [] deliver_lacks_0)
 deliver_fits (f ∷ []) is =
-    let f-is = both (is_operand f) _ is in
+    let f-is = both_true (is_operand f) _ is in
     inr (deliver_into (f ∷ []) MissingRequiredArgument [] (deliver_lacks_1 f (plain f f-is.0)))
 deliver_fits (f ∷ m ∷ []) is =
-    let f-is = both (is_operand f) _ is in
-    let m-is = both (is_operand m) _ f-is.1 in
-    inl (Deliver f m, record { words_are = refl; operands = both_are f-is.0 m-is.0 })
+    let f-is = both_true (is_operand f) _ is in
+    let m-is = both_true (is_operand m) _ f-is.1 in
+    inl (Deliver f m, record { words_are = refl; operands = both f-is.0 m-is.0 })
 deliver_fits (f ∷ m ∷ x ∷ more) is =
-    let f-is = both (is_operand f) _ is in
-    let m-is = both (is_operand m) _ f-is.1 in
-    let x-is = both (is_operand x) _ m-is.1 in
+    let f-is = both_true (is_operand f) _ is in
+    let m-is = both_true (is_operand m) _ f-is.1 in
+    let x-is = both_true (is_operand x) _ m-is.1 in
     inr (deliver_into (f ∷ m ∷ x ∷ more) UnknownArgument [] (stray (leaf (codes "deliver")) (f ∷ m ∷ x ∷ more) UnknownArgument [] (deliver_and_more f m x more (plain f f-is.0) (plain m m-is.0) (plain x x-is.0))))
 
 -- ---- plan
@@ -318,29 +317,29 @@ plan_and_more f k i p x more f-is k-is i-is p-is x-is = rw (f-is.no_end, f-is.no
 plan_fits : (rest : List Text) → list_all is_operand rest ≡ true → Fits (codes "plan" ∷ rest)
 plan_fits [] is = inr (plan_into ([]) MissingRequiredArgument [] plan_lacks_0)
 plan_fits (f ∷ []) is =
-    let f-is = both (is_operand f) _ is in
+    let f-is = both_true (is_operand f) _ is in
     inr (plan_into (f ∷ []) MissingRequiredArgument [] (plan_lacks_1 f (plain f f-is.0)))
 plan_fits (f ∷ k ∷ []) is =
-    let f-is = both (is_operand f) _ is in
-    let k-is = both (is_operand k) _ f-is.1 in
+    let f-is = both_true (is_operand f) _ is in
+    let k-is = both_true (is_operand k) _ f-is.1 in
     inr (plan_into (f ∷ k ∷ []) MissingRequiredArgument [] (plan_lacks_2 f k (plain f f-is.0) (plain k k-is.0)))
 plan_fits (f ∷ k ∷ i ∷ []) is =
-    let f-is = both (is_operand f) _ is in
-    let k-is = both (is_operand k) _ f-is.1 in
-    let i-is = both (is_operand i) _ k-is.1 in
+    let f-is = both_true (is_operand f) _ is in
+    let k-is = both_true (is_operand k) _ f-is.1 in
+    let i-is = both_true (is_operand i) _ k-is.1 in
     inr (plan_into (f ∷ k ∷ i ∷ []) MissingRequiredArgument [] (plan_lacks_3 f k i (plain f f-is.0) (plain k k-is.0) (plain i i-is.0)))
 plan_fits (f ∷ k ∷ i ∷ p ∷ []) is =
-    let f-is = both (is_operand f) _ is in
-    let k-is = both (is_operand k) _ f-is.1 in
-    let i-is = both (is_operand i) _ k-is.1 in
-    let p-is = both (is_operand p) _ i-is.1 in
-    inl (Plan f k i p, record { words_are = refl; operands = both_are f-is.0 (both_are k-is.0 (both_are i-is.0 p-is.0)) })
+    let f-is = both_true (is_operand f) _ is in
+    let k-is = both_true (is_operand k) _ f-is.1 in
+    let i-is = both_true (is_operand i) _ k-is.1 in
+    let p-is = both_true (is_operand p) _ i-is.1 in
+    inl (Plan f k i p, record { words_are = refl; operands = both f-is.0 (both k-is.0 (both i-is.0 p-is.0)) })
 plan_fits (f ∷ k ∷ i ∷ p ∷ x ∷ more) is =
-    let f-is = both (is_operand f) _ is in
-    let k-is = both (is_operand k) _ f-is.1 in
-    let i-is = both (is_operand i) _ k-is.1 in
-    let p-is = both (is_operand p) _ i-is.1 in
-    let x-is = both (is_operand x) _ p-is.1 in
+    let f-is = both_true (is_operand f) _ is in
+    let k-is = both_true (is_operand k) _ f-is.1 in
+    let i-is = both_true (is_operand i) _ k-is.1 in
+    let p-is = both_true (is_operand p) _ i-is.1 in
+    let x-is = both_true (is_operand x) _ p-is.1 in
     inr (plan_into (f ∷ k ∷ i ∷ p ∷ x ∷ more) UnknownArgument [] (stray (leaf (codes "plan")) (f ∷ k ∷ i ∷ p ∷ x ∷ more) UnknownArgument [] (plan_and_more f k i p x more (plain f f-is.0) (plain k k-is.0) (plain i i-is.0) (plain p p-is.0) (plain x x-is.0))))
 
 -- ---- explain
@@ -364,22 +363,22 @@ explain_and_more f k i x more f-is k-is i-is x-is = rw (f-is.no_end, f-is.no_lon
 explain_fits : (rest : List Text) → list_all is_operand rest ≡ true → Fits (codes "explain" ∷ rest)
 explain_fits [] is = inr (explain_into ([]) MissingRequiredArgument [] explain_lacks_0)
 explain_fits (f ∷ []) is =
-    let f-is = both (is_operand f) _ is in
+    let f-is = both_true (is_operand f) _ is in
     inr (explain_into (f ∷ []) MissingRequiredArgument [] (explain_lacks_1 f (plain f f-is.0)))
 explain_fits (f ∷ k ∷ []) is =
-    let f-is = both (is_operand f) _ is in
-    let k-is = both (is_operand k) _ f-is.1 in
-    inl (Explain f k None, record { words_are = refl; operands = both_are f-is.0 (both_are k-is.0 refl) })
+    let f-is = both_true (is_operand f) _ is in
+    let k-is = both_true (is_operand k) _ f-is.1 in
+    inl (Explain f k None, record { words_are = refl; operands = both f-is.0 (both k-is.0 refl) })
 explain_fits (f ∷ k ∷ i ∷ []) is =
-    let f-is = both (is_operand f) _ is in
-    let k-is = both (is_operand k) _ f-is.1 in
-    let i-is = both (is_operand i) _ k-is.1 in
-    inl (Explain f k (Some i), record { words_are = refl; operands = both_are f-is.0 (both_are k-is.0 i-is.0) })
+    let f-is = both_true (is_operand f) _ is in
+    let k-is = both_true (is_operand k) _ f-is.1 in
+    let i-is = both_true (is_operand i) _ k-is.1 in
+    inl (Explain f k (Some i), record { words_are = refl; operands = both f-is.0 (both k-is.0 i-is.0) })
 explain_fits (f ∷ k ∷ i ∷ x ∷ more) is =
-    let f-is = both (is_operand f) _ is in
-    let k-is = both (is_operand k) _ f-is.1 in
-    let i-is = both (is_operand i) _ k-is.1 in
-    let x-is = both (is_operand x) _ i-is.1 in
+    let f-is = both_true (is_operand f) _ is in
+    let k-is = both_true (is_operand k) _ f-is.1 in
+    let i-is = both_true (is_operand i) _ k-is.1 in
+    let x-is = both_true (is_operand x) _ i-is.1 in
     inr (explain_into (f ∷ k ∷ i ∷ x ∷ more) UnknownArgument [] (stray (leaf (codes "explain")) (f ∷ k ∷ i ∷ x ∷ more) UnknownArgument [] (explain_and_more f k i x more (plain f f-is.0) (plain k k-is.0) (plain i i-is.0) (plain x x-is.0))))
 
 -- ---- report
@@ -415,37 +414,37 @@ report_and_more f a m d t x more f-is a-is m-is d-is t-is x-is = rw (f-is.no_end
 report_fits : (rest : List Text) → list_all is_operand rest ≡ true → Fits (codes "report" ∷ rest)
 report_fits [] is = inr (report_into ([]) MissingRequiredArgument [] report_lacks_0)
 report_fits (f ∷ []) is =
-    let f-is = both (is_operand f) _ is in
+    let f-is = both_true (is_operand f) _ is in
     inr (report_into (f ∷ []) MissingRequiredArgument [] (report_lacks_1 f (plain f f-is.0)))
 report_fits (f ∷ a ∷ []) is =
-    let f-is = both (is_operand f) _ is in
-    let a-is = both (is_operand a) _ f-is.1 in
+    let f-is = both_true (is_operand f) _ is in
+    let a-is = both_true (is_operand a) _ f-is.1 in
     inr (report_into (f ∷ a ∷ []) MissingRequiredArgument [] (report_lacks_2 f a (plain f f-is.0) (plain a a-is.0)))
 report_fits (f ∷ a ∷ m ∷ []) is =
-    let f-is = both (is_operand f) _ is in
-    let a-is = both (is_operand a) _ f-is.1 in
-    let m-is = both (is_operand m) _ a-is.1 in
+    let f-is = both_true (is_operand f) _ is in
+    let a-is = both_true (is_operand a) _ f-is.1 in
+    let m-is = both_true (is_operand m) _ a-is.1 in
     inr (report_into (f ∷ a ∷ m ∷ []) MissingRequiredArgument [] (report_lacks_3 f a m (plain f f-is.0) (plain a a-is.0) (plain m m-is.0)))
 report_fits (f ∷ a ∷ m ∷ d ∷ []) is =
-    let f-is = both (is_operand f) _ is in
-    let a-is = both (is_operand a) _ f-is.1 in
-    let m-is = both (is_operand m) _ a-is.1 in
-    let d-is = both (is_operand d) _ m-is.1 in
+    let f-is = both_true (is_operand f) _ is in
+    let a-is = both_true (is_operand a) _ f-is.1 in
+    let m-is = both_true (is_operand m) _ a-is.1 in
+    let d-is = both_true (is_operand d) _ m-is.1 in
     inr (report_into (f ∷ a ∷ m ∷ d ∷ []) MissingRequiredArgument [] (report_lacks_4 f a m d (plain f f-is.0) (plain a a-is.0) (plain m m-is.0) (plain d d-is.0)))
 report_fits (f ∷ a ∷ m ∷ d ∷ t ∷ []) is =
-    let f-is = both (is_operand f) _ is in
-    let a-is = both (is_operand a) _ f-is.1 in
-    let m-is = both (is_operand m) _ a-is.1 in
-    let d-is = both (is_operand d) _ m-is.1 in
-    let t-is = both (is_operand t) _ d-is.1 in
-    inl (Report f a m d t, record { words_are = refl; operands = both_are f-is.0 (both_are a-is.0 (both_are m-is.0 (both_are d-is.0 t-is.0))) })
+    let f-is = both_true (is_operand f) _ is in
+    let a-is = both_true (is_operand a) _ f-is.1 in
+    let m-is = both_true (is_operand m) _ a-is.1 in
+    let d-is = both_true (is_operand d) _ m-is.1 in
+    let t-is = both_true (is_operand t) _ d-is.1 in
+    inl (Report f a m d t, record { words_are = refl; operands = both f-is.0 (both a-is.0 (both m-is.0 (both d-is.0 t-is.0))) })
 report_fits (f ∷ a ∷ m ∷ d ∷ t ∷ x ∷ more) is =
-    let f-is = both (is_operand f) _ is in
-    let a-is = both (is_operand a) _ f-is.1 in
-    let m-is = both (is_operand m) _ a-is.1 in
-    let d-is = both (is_operand d) _ m-is.1 in
-    let t-is = both (is_operand t) _ d-is.1 in
-    let x-is = both (is_operand x) _ t-is.1 in
+    let f-is = both_true (is_operand f) _ is in
+    let a-is = both_true (is_operand a) _ f-is.1 in
+    let m-is = both_true (is_operand m) _ a-is.1 in
+    let d-is = both_true (is_operand d) _ m-is.1 in
+    let t-is = both_true (is_operand t) _ d-is.1 in
+    let x-is = both_true (is_operand x) _ t-is.1 in
     inr (report_into (f ∷ a ∷ m ∷ d ∷ t ∷ x ∷ more) UnknownArgument [] (stray (leaf (codes "report")) (f ∷ a ∷ m ∷ d ∷ t ∷ x ∷ more) UnknownArgument [] (report_and_more f a m d t x more (plain f f-is.0) (plain a a-is.0) (plain m m-is.0) (plain d d-is.0) (plain t t-is.0) (plain x x-is.0))))
 
 -- ---- reports
@@ -469,16 +468,16 @@ reports_and_more f l x more f-is l-is x-is = rw (f-is.no_end, f-is.no_long, f-is
 reports_fits : (rest : List Text) → list_all is_operand rest ≡ true → Fits (codes "reports" ∷ rest)
 reports_fits [] is = inr (reports_into ([]) MissingRequiredArgument [] reports_lacks_0)
 reports_fits (f ∷ []) is =
-    let f-is = both (is_operand f) _ is in
+    let f-is = both_true (is_operand f) _ is in
     inr (reports_into (f ∷ []) MissingRequiredArgument [] (reports_lacks_1 f (plain f f-is.0)))
 reports_fits (f ∷ l ∷ []) is =
-    let f-is = both (is_operand f) _ is in
-    let l-is = both (is_operand l) _ f-is.1 in
-    inl (Reports f l, record { words_are = refl; operands = both_are f-is.0 l-is.0 })
+    let f-is = both_true (is_operand f) _ is in
+    let l-is = both_true (is_operand l) _ f-is.1 in
+    inl (Reports f l, record { words_are = refl; operands = both f-is.0 l-is.0 })
 reports_fits (f ∷ l ∷ x ∷ more) is =
-    let f-is = both (is_operand f) _ is in
-    let l-is = both (is_operand l) _ f-is.1 in
-    let x-is = both (is_operand x) _ l-is.1 in
+    let f-is = both_true (is_operand f) _ is in
+    let l-is = both_true (is_operand l) _ f-is.1 in
+    let x-is = both_true (is_operand x) _ l-is.1 in
     inr (reports_into (f ∷ l ∷ x ∷ more) UnknownArgument [] (stray (leaf (codes "reports")) (f ∷ l ∷ x ∷ more) UnknownArgument [] (reports_and_more f l x more (plain f f-is.0) (plain l l-is.0) (plain x x-is.0))))
 
 -- ---- dump
@@ -502,16 +501,16 @@ dump_and_more f t x more f-is t-is x-is = rw (f-is.no_end, f-is.no_long, f-is.no
 dump_fits : (rest : List Text) → list_all is_operand rest ≡ true → Fits (codes "dump" ∷ rest)
 dump_fits [] is = inr (dump_into ([]) MissingRequiredArgument [] dump_lacks_0)
 dump_fits (f ∷ []) is =
-    let f-is = both (is_operand f) _ is in
+    let f-is = both_true (is_operand f) _ is in
     inr (dump_into (f ∷ []) MissingRequiredArgument [] (dump_lacks_1 f (plain f f-is.0)))
 dump_fits (f ∷ t ∷ []) is =
-    let f-is = both (is_operand f) _ is in
-    let t-is = both (is_operand t) _ f-is.1 in
-    inl (Dump f t, record { words_are = refl; operands = both_are f-is.0 t-is.0 })
+    let f-is = both_true (is_operand f) _ is in
+    let t-is = both_true (is_operand t) _ f-is.1 in
+    inl (Dump f t, record { words_are = refl; operands = both f-is.0 t-is.0 })
 dump_fits (f ∷ t ∷ x ∷ more) is =
-    let f-is = both (is_operand f) _ is in
-    let t-is = both (is_operand t) _ f-is.1 in
-    let x-is = both (is_operand x) _ t-is.1 in
+    let f-is = both_true (is_operand f) _ is in
+    let t-is = both_true (is_operand t) _ f-is.1 in
+    let x-is = both_true (is_operand x) _ t-is.1 in
     inr (dump_into (f ∷ t ∷ x ∷ more) UnknownArgument [] (stray (leaf (codes "dump")) (f ∷ t ∷ x ∷ more) UnknownArgument [] (dump_and_more f t x more (plain f f-is.0) (plain t t-is.0) (plain x x-is.0))))
 
 -- ---- check
@@ -531,11 +530,11 @@ check_and_more f x more f-is x-is = rw (f-is.no_end, f-is.no_long, f-is.no_short
 check_fits : (rest : List Text) → list_all is_operand rest ≡ true → Fits (codes "check" ∷ rest)
 check_fits [] is = inr (check_into ([]) MissingRequiredArgument [] check_lacks_0)
 check_fits (f ∷ []) is =
-    let f-is = both (is_operand f) _ is in
+    let f-is = both_true (is_operand f) _ is in
     inl (Check f, record { words_are = refl; operands = f-is.0 })
 check_fits (f ∷ x ∷ more) is =
-    let f-is = both (is_operand f) _ is in
-    let x-is = both (is_operand x) _ f-is.1 in
+    let f-is = both_true (is_operand f) _ is in
+    let x-is = both_true (is_operand x) _ f-is.1 in
     inr (check_into (f ∷ x ∷ more) UnknownArgument [] (stray (leaf (codes "check")) (f ∷ x ∷ more) UnknownArgument [] (check_and_more f x more (plain f f-is.0) (plain x x-is.0))))
 
 -- ---- status
@@ -555,11 +554,11 @@ status_and_more f x more f-is x-is = rw (f-is.no_end, f-is.no_long, f-is.no_shor
 status_fits : (rest : List Text) → list_all is_operand rest ≡ true → Fits (codes "status" ∷ rest)
 status_fits [] is = inr (status_into ([]) MissingRequiredArgument [] status_lacks_0)
 status_fits (f ∷ []) is =
-    let f-is = both (is_operand f) _ is in
+    let f-is = both_true (is_operand f) _ is in
     inl (Status f, record { words_are = refl; operands = f-is.0 })
 status_fits (f ∷ x ∷ more) is =
-    let f-is = both (is_operand f) _ is in
-    let x-is = both (is_operand x) _ f-is.1 in
+    let f-is = both_true (is_operand f) _ is in
+    let x-is = both_true (is_operand x) _ f-is.1 in
     inr (status_into (f ∷ x ∷ more) UnknownArgument [] (stray (leaf (codes "status")) (f ∷ x ∷ more) UnknownArgument [] (status_and_more f x more (plain f f-is.0) (plain x x-is.0))))
 
 -- ---- a first word that names no command
@@ -631,4 +630,4 @@ fits_behind w rest is others =
 
 pub fits : (words : List Text) → list_all is_operand words ≡ true → Fits words
 fits [] is = inr (not_asked [] MissingSubcommand [] no_words)
-fits (w ∷ rest) is = let parts = both (is_operand w) _ is in fits_behind w rest parts.0 parts.1
+fits (w ∷ rest) is = let parts = both_true (is_operand w) _ is in fits_behind w rest parts.0 parts.1

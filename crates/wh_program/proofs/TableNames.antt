@@ -4,21 +4,7 @@ use Rattle.std.specs.Prelude.{find, bytes_eq, IfSome}
 use Rattle.std.proofs.lemmas.Slice.Eq.{bytes_eq-Decides}
 use Rattle.wh_rows.specs.Names.{table_name, table_named, every_table}
 use Rattle.wh_rows.specs.declared.table.Table.{Table}
-use Rattle.wh_rows.specs.declared.table.Table.TheVariants.{Meta, Command, Member, Change, Product, Store, Customer, Profile, Calendar, Fact, Fact2, Void}
-
-named_back : (t : Table) → table_named (table_name t) ≡ Some t
-named_back Meta = refl
-named_back Command = refl
-named_back Member = refl
-named_back Change = refl
-named_back Product = refl
-named_back Store = refl
-named_back Customer = refl
-named_back Profile = refl
-named_back Calendar = refl
-named_back Fact = refl
-named_back Fact2 = refl
-named_back Void = refl
+use Rattle.wh_rows.proofs.Named.{named_back}
 
 no_match : (b : Bool) → (b ≡ true → ⊥) → b ≡ false
 no_match true other = absurd (other refl)

@@ -1,6 +1,6 @@
 -- What the words over a warehouse leave of what stood.
 use Rattle.std.proofs.Common.{◌≡◌, ◌⊎◌, inl, inr, refl, sym, subst, ap, ◌∙◌, ℕ, List, [], ◌∷◌, Some, None, Ok, Err, true, false}
-use Rattle.std.specs.Prelude.{Result, Bool, ◌||◌, map, IfOk, IfErr, IsOk, OnErr}
+use Rattle.std.specs.Prelude.{Result, map, IfOk, IfErr, IsOk, OnErr}
 use Rattle.std.specs.List.{list_any}
 use Rattle.std.proofs.lemmas.Result.{IfOk-weaker}
 use Rattle.std.specs.declared.alloc.AllocError.{AllocError}
@@ -49,6 +49,7 @@ use Rattle.wh_program.specs.Standing.{DatabaseContent, Nothing, Holds, Keeps, St
 use Rattle.wh_program.specs.Warehouse.{Told, printed, Opens, IsUnread, IsReplied, IsForetold, IsCounted, Makes, AnswersWith, IsTried, IsNotConnected}
 use Rattle.wh_program.specs.declared.host.HostError.{HostError}
 use Rattle.wh_program.specs.declared.host.HostError.TheVariants.{NoFile}
+use Rattle.wh_report.proofs.AddedLines.{second_true}
 
 -- where no object is, the ten tables are not all there
 pub none_there : are_all_there no_schema ≡ false
@@ -56,14 +57,10 @@ unfolding are_all_there
 none_there = refl
 
 -- in a warehouse of either format names of its tables are taken
-either_taken : (ten second : Bool) → second ≡ true → (ten || second) ≡ true
-either_taken true second is = refl
-either_taken false second is = is
-
 taken_in : (format : Format) → is_any_taken (schema_in format) ≡ true
 unfolding is_any_taken
 taken_in One = taken_in_a_warehouse
-taken_in Two = either_taken (list_any (is_used (schema_in Two)) (map (λ t. t.name) warehouse.tables)) (is_second_taken (schema_in Two)) (second_taken Two)
+taken_in Two = second_true (list_any (is_used (schema_in Two)) (map (λ t. t.name) warehouse.tables)) (is_second_taken (schema_in Two)) (second_taken Two)
 
 -- ---- rows that anybody wrote
 

@@ -7,7 +7,6 @@ use Rattle.wh_policy.specs.declared.attribute.Dim.TheVariants.{Product, Customer
 use Rattle.wh_day.specs.declared.calendar.DateRow.{DateRow}
 use Rattle.wh_batch.specs.declared.kind.CommandKind.TheVariants.{Migration}
 use Rattle.wh_admission.specs.declared.command.Command.{Command}
-use Rattle.wh_admission.specs.declared.command.Receipt.{Receipt}
 use Rattle.wh_admission.specs.declared.command.Refused.{Refused}
 use Rattle.wh_admission.specs.declared.command.Refused.TheVariants.{BadId, Upgraded, NameTaken}
 use Rattle.wh_admission.specs.declared.command.Reply.{Reply}
@@ -31,6 +30,7 @@ use Rattle.wh_batch.specs.declared.report_list.ListedReport.{ListedReport}
 use Rattle.wh_history.specs.Accepted.{Accepted as AcceptedCommand}
 use Rattle.wh_program.specs.PlanText.{plan_text}
 use Rattle.wh_program.specs.Reply.{refused_line}
+use Rattle.wh_engine.proofs.WorkedAnswers.{receipt}
 
 abbrev command : ℕ → CommandRow
 command number = record { number = number; id = []; kind = []; bytes = []; records = 1; placeholders = 0 }
@@ -163,9 +163,6 @@ sent id = record { id = id; kind = Migration; bytes = [] }
 
 abbrev night : List Command
 night = sent (codes "p1") ∷ sent (codes "s1") ∷ sent (codes "s1") ∷ sent (codes "bad id") ∷ []
-
-abbrev receipt : ℕ → ℕ → ℕ → Receipt
-receipt number records placeholders = record { number = number; records = records; placeholders = placeholders }
 
 abbrev answers : List (Result Reply Refused)
 answers = Ok (Accepted (receipt 2 1 0)) ∷ Ok (Accepted (receipt 3 2 1)) ∷ Ok (Already (receipt 3 2 1)) ∷ Err BadId ∷ []

@@ -87,13 +87,14 @@ all_added (s ∷ sales) ls up all = one_more s sales ls up all.0 ∙ ap (before 
 
 -- ---- the labels of the sales are such
 
-either : (a b : Bool) → b ≡ true → (a || b) ≡ true
-either true b h = refl
-either false b h = h
+-- what the second test passes one of both passes
+pub second_true : (a b : Bool) → b ≡ true → (a || b) ≡ true
+second_true true b h = refl
+second_true false b h = h
 
 also_with : (t : Sold) (sales some : List Sold) → AllByRecursion (λ s. list_any (λ u. bytes_eq s.label u.label) sales ≡ true) some → AllByRecursion (λ s. list_any (λ u. bytes_eq s.label u.label) (t ∷ sales) ≡ true) some
 also_with t sales [] all = tt
-also_with t sales (s ∷ some) all = (either (bytes_eq s.label t.label) (list_any (λ u. bytes_eq s.label u.label) sales) all.0, also_with t sales some all.1)
+also_with t sales (s ∷ some) all = (second_true (bytes_eq s.label t.label) (list_any (λ u. bytes_eq s.label u.label) sales) all.0, also_with t sales some all.1)
 
 each_there : (sales : List Sold) → AllByRecursion (λ s. list_any (λ u. bytes_eq s.label u.label) sales ≡ true) sales
 each_there [] = tt

@@ -18,7 +18,7 @@ use Rattle.wh_history.proofs.Basics.{some_is}
 use Rattle.wh_history.proofs.Effective.{found_row, effective, days_in, durable_given}
 use Rattle.wh_history.proofs.Joins.{InSpans, all_weaker}
 use Rattle.wh_history.proofs.Owners.{owners_given}
-use Rattle.wh_history.proofs.Shown.{span_found}
+use Rattle.wh_history.proofs.Shown.{span_found, to_held}
 use Rattle.wh_history.proofs.Spans.{Rises, InOrder-dated, Rises-starts}
 use Rattle.wh_model.proofs.GrownKeys.{all_at}
 use Rattle.wh_model.proofs.ValidTables.{then_of}
@@ -43,9 +43,6 @@ ends_last s from (next ∷ more) up here late =
       | inl first ↦ let is = ap (λ (t : ℕ × ℕ). t.1) first in let before = up.2.0 in let within = up.1 in absurd (omega arith)
       | inr later ↦ ends_last s next more up.3 later late
     ]
-
-held_to : (day : ℕ) (r : DimRow) → holds day r ≡ true → day ≤ r.to_day
-held_to day r h = grind (arith, nat_tests)
 
 holds_it : (day : ℕ) (r : DimRow) → r.from_day ≤ day → r.to_day ≡ day → holds day r ≡ true
 holds_it day r low is = grind (arith, nat_tests)
@@ -103,7 +100,7 @@ current_row commands dim natural ends member =
     let found = found_row dim commands natural ends member last_day last_is_day in
     let r : DimRow = found.0 in
     let span = span_found (types_in dim commands) (number_of commands dim ends natural) (member_of dim commands natural) (holds last_day) r first_day (starts (types_in dim commands) (dated (changes_of dim commands natural))) found.1 in
-    let late : last_day ≤ span.0.1 = subst (λ (q : DimRow). last_day ≤ q.to_day) span.2 (held_to last_day r span.3) in
+    let late : last_day ≤ span.0.1 = subst (λ (q : DimRow). last_day ≤ q.to_day) span.2 (to_held last_day r span.3) in
     let end = ends_last span.0 first_day _ (rises_of commands dim ends natural) span.1 late in
     let one = effective dim commands natural ends member last_day last_is_day in
     record {

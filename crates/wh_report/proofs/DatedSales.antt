@@ -26,6 +26,7 @@ use Rattle.wh_batch.proofs.GoodLemmas.{reads_batches}
 use Rattle.wh_history.specs.Accepted.{Accepted, Content, Governs, Describes, Sells, Upgrades, Withdraws, format_of, governed, policy_after, sold, sold_by}
 use Rattle.wh_history.specs.Tables.{Limits}
 use Rattle.wh_history.proofs.Joins.{all_append, all_weaker}
+use Rattle.wh_history.proofs.Basics.{both_true}
 use Rattle.wh_model.specs.Defined.{calendar_at, day_at}
 use Rattle.wh_model.specs.Sound.{making_of}
 use Rattle.wh_model.specs.Sound.{IsGoodSale}
@@ -38,6 +39,7 @@ use Rattle.wh_admission.specs.declared.command.Reply.TheVariants.{Accepted as Ac
 use Rattle.wh_admission.specs.declared.command.Refused.{Refused}
 use Rattle.wh_admission.specs.declared.command.Refused.TheVariants.{Unfit}
 use Rattle.wh_admission.proofs.Admitted.{admitted_sound}
+use Rattle.wh_admission.proofs.Migrated.{policy_with}
 use Rattle.wh_report.specs.Laws.{AdmittedSalesAreDated}
 
 -- the sales lie in these years
@@ -50,20 +52,12 @@ IsWithinAll commands = AreWithin (current_policy commands).years (sold commands)
 
 -- ---- one command more
 
-policy_behind : (before : Option Policy) (commands : List Accepted) (c : Accepted) → policy_after before (commands ++ c ∷ []) ≡ governed (policy_after before commands) c.content
-policy_behind before [] c = refl
-policy_behind before (d ∷ commands) c = policy_behind (governed before d.content) commands c
-
 sold_behind : (commands : List Accepted) (c : Accepted) → sold (commands ++ c ∷ []) ≡ sold commands ++ sold_by c.content
 sold_behind [] c = append-nil (sold_by c.content)
 sold_behind (d ∷ commands) c = ap (λ sales. sold_by d.content ++ sales) (sold_behind commands c) ∙ sym (append_assoc (sold_by d.content) (sold commands) (sold_by c.content))
 
 ok_is : {A F : Type 0} (x y : A) → ◌≡◌ {A = Result A F} (Ok x) (Ok y) → x ≡ y
 ok_is x y e = cc
-
-both : (a b : Bool) → (a && b) ≡ true → (a ≡ true) × (b ≡ true)
-both true b e = (refl, e)
-both false b e = cc
 
 -- no year is lost
 widened : (older newer : Years) (day : ℕ) → nat_le newer.first older.first ≡ true → nat_le older.last newer.last ≡ true → is_within older day ≡ true → is_within newer day ≡ true
@@ -72,13 +66,13 @@ widened older newer day first last within = grind (arith, nat_tests)
 kept : (older newer : Policy) (sales : List SaleRecord) → fits older newer ≡ true → AreWithin older.years sales → AreWithin newer.years sales
 kept older newer sales fit all =
     let names : Bool = are_kept older.product newer.product && are_kept older.store newer.store && are_kept older.customer newer.customer in
-    let last = both (names && nat_le newer.years.first older.years.first) (nat_le older.years.last newer.years.last) fit in
-    let first = both names (nat_le newer.years.first older.years.first) last.0 in
+    let last = both_true (names && nat_le newer.years.first older.years.first) (nat_le older.years.last newer.years.last) fit in
+    let first = both_true names (nat_le newer.years.first older.years.first) last.0 in
     all_weaker (λ s. is_within older.years s.day ≡ true) (λ s. is_within newer.years s.day ≡ true) (λ s within. widened older.years newer.years s.day first.1 last.1 within) sales all
 
 each_passes : (years : Years) (sales : List SaleRecord) → list_all (λ s. is_within years s.day) sales ≡ true → AreWithin years sales
 each_passes years [] all = tt
-each_passes years (s ∷ sales) all = let parts = both _ _ all in (parts.0, each_passes years sales parts.1)
+each_passes years (s ∷ sales) all = let parts = both_true _ _ all in (parts.0, each_passes years sales parts.1)
 
 read_within : (policy : Policy) (format : Format) (bytes : List ℕ) (sales : List SaleRecord) → sale_records policy format bytes ≡ Ok sales → AreWithin policy.years sales
 unfolding sale_records
@@ -91,14 +85,14 @@ module _ (commands : List Accepted) (c : Command) (within : IsWithinAll commands
   -- under the same policy
   same_policy : (content : Content) → governed (policy_after None commands) content ≡ policy_after None commands → AreWithin (current_policy commands).years (sold_by content) → IsWithinAll (with_it content)
   same_policy content same new =
-      let force : current_policy (with_it content) ≡ current_policy commands = ap (λ (o : Option Policy). unwrap_or o trial_policy) (policy_behind None commands (accepted_as c content) ∙ same) in
+      let force : current_policy (with_it content) ≡ current_policy commands = ap (λ (o : Option Policy). unwrap_or o trial_policy) (policy_with None commands (accepted_as c content) ∙ same) in
       subst (λ (p : Policy). AreWithin p.years (sold (with_it content))) (sym force)
       (subst (AreWithin (current_policy commands).years) (sym (sold_behind commands (accepted_as c content))) (all_append (λ s. is_within (current_policy commands).years s.day ≡ true) (sold commands) (sold_by content) within new))
 
   -- under a policy that fits it
   newer_policy : (newer : Policy) → fits (current_policy commands) newer ≡ true → IsWithinAll (with_it (Governs newer))
   newer_policy newer fit =
-      let force : current_policy (with_it (Governs newer)) ≡ newer = ap (λ (o : Option Policy). unwrap_or o trial_policy) (policy_behind None commands (accepted_as c (Governs newer))) in
+      let force : current_policy (with_it (Governs newer)) ≡ newer = ap (λ (o : Option Policy). unwrap_or o trial_policy) (policy_with None commands (accepted_as c (Governs newer))) in
       subst (λ (p : Policy). AreWithin p.years (sold (with_it (Governs newer)))) (sym force)
       (subst (AreWithin newer.years) (sym (sold_behind commands (accepted_as c (Governs newer)) ∙ append-nil (sold commands))) (kept (current_policy commands) newer (sold commands) fit within))
 
@@ -147,7 +141,7 @@ within_after_all limits commands (c ∷ sent) within = within_after_all limits (
 dated : (commands : List Accepted) (o : Option Policy) (day : ℕ) → policy_after None commands ≡ o → IsSome o → is_day day ≡ true → is_within (unwrap_or o trial_policy).years day ≡ true → IsSome (calendar_at commands day)
 dated commands None day is some day_is within = absurd cc
 dated commands (Some policy) day is some day_is within =
-    let parts = both (nat_le policy.years.first (year_of day)) (nat_le (year_of day) policy.years.last) within in
+    let parts = both_true (nat_le policy.years.first (year_of day)) (nat_le (year_of day) policy.years.last) within in
     let row : day_at policy day ≡ Some (calendar_row policy.holidays day) = rw (day_is, parts.0, parts.1) refl in
     subst IsSome (sym (ap (option_and_then (λ (p : Policy). day_at p day)) is ∙ row)) refl
 

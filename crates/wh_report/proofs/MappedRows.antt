@@ -1,19 +1,19 @@
 -- The rows of finite maps, and what the facts of a map come to.
-use Rattle.std.proofs.Common.{◌≡◌, T, ℕ, suc, true, false, cond, List, [], ◌∷◌, ◌++◌, map, length, Option, Some, None, refl, sym, ◌∙◌, ap, subst, arith, Ordering, Less, Equal, Greater, append_assoc, append-nil}
+use Rattle.std.proofs.Common.{◌≡◌, ℕ, suc, true, false, cond, List, [], ◌∷◌, ◌++◌, map, length, Option, Some, None, refl, sym, ◌∙◌, ap, subst, arith, Ordering, Less, Equal, Greater, append_assoc, append-nil}
 use Rattle.std.specs.Prelude.{find as find_first, filter_map, Contains}
-use Rattle.std.specs.Cmp.{IsTotalOrder, eq_by_cmp_equiv}
-use Rattle.std.specs.FinMap.{FinMap, entries, values, get, insert, empty, find, put, is_sorted, entries_sorted, get-entries, get-insert, get-empty, entries-insert, len-empty, same_map}
-use Rattle.std.specs.FinMap.Entries.{by_order, below_all}
+use Rattle.std.specs.Cmp.{IsTotalOrder}
+use Rattle.std.specs.FinMap.{FinMap, entries, values, get, insert, empty, find, put, entries_sorted, get-entries, get-insert, get-empty, entries-insert, len-empty, same_map}
+use Rattle.std.specs.FinMap.Entries.{by_order}
 use Rattle.std.specs.List.{AllByRecursion, IsDistinct, cons_option}
 use Rattle.std.specs.Option.{option_or}
 use Rattle.std.specs.Ordering.{eq_by_cmp, is_eq, nat_cmp}
 use Rattle.std.proofs.lemmas.Cmp.{nat_cmp_total}
 use Rattle.std.proofs.lemmas.List.Elements.{filter_map-append}
+use Rattle.std.proofs.lemmas.Map.Made.{option_or-none}
 use Rattle.wh_history.specs.Accepted.{Accepted, standing, format_of}
 use Rattle.wh_history.specs.Tables.{Limits, fact_of}
 use Rattle.wh_history.specs.declared.facts.Fact.{Fact}
 use Rattle.wh_history.proofs.Basics.{some_is}
-use Rattle.wh_rows.proofs.Maps.{both_true, less_is}
 use Rattle.wh_rows.proofs.Orders.{line_cmp_total, line_cmp-IsAntisymmetric}
 use Rattle.wh_rows.specs.Facts.{facts_in}
 use Rattle.wh_rows.specs.Rows as row
@@ -22,30 +22,18 @@ use Rattle.wh_rows.specs.declared.key.LineKey.{LineKey}
 use Rattle.wh_plan.specs.BatchRows.{has_line}
 use Rattle.wh_model.specs.Defined.{AreOf}
 use Rattle.wh_model.specs.Sound.{same_line}
-use Rattle.wh_plan.proofs.GrownFacts.{own_line, line_is, line_tied, Once, facts_put, found_mapped, facts_once, or_none}
+use Rattle.wh_plan.proofs.GrownFacts.{own_line, line_is, line_tied, Once, facts_put, found_mapped, facts_once}
 use Rattle.wh_model.proofs.Formatted.{facts_in_are}
 use Rattle.wh_model.proofs.Listed.{len-values}
 use Rattle.wh_rows.specs.Steps.{with_rows}
 use Rattle.wh_report.specs.Defined.{AreRowsOf}
 use Rattle.wh_report.specs.Summary.{Sold, summed}
 use Rattle.wh_report.proofs.Reports.{moved}
+use Rattle.wh_admission.proofs.StoredMaps.{each_found}
 
 -- ---- the rows of a map are those that it has under keys
 
 module _ {K V : Type 0} (R : K → K → Ordering) (total : IsTotalOrder R) where
-  still_found : (e : K × V) (ds es : List (K × V)) → T (below_all R e.0 ds) → AllByRecursion (λ d. find R d.0 es ≡ Some d.1) ds → AllByRecursion (λ d. find R d.0 (e ∷ es) ≡ Some d.1) ds
-  still_found e [] es below all = tt
-  still_found e (d ∷ ds) es below all =
-      let parts = both_true _ _ below in
-      let apart : eq_by_cmp R d.0 e.0 ≡ false = (eq_by_cmp_equiv total).symm d.0 e.0 ∙ ap is_eq (less_is (R e.0 d.0) parts.0) in
-      (ap (λ b. cond b (Some e.1) (find R d.0 es)) apart ∙ all.0, still_found e ds es parts.1 all.1)
-
-  each_found : (es : List (K × V)) → T (is_sorted R es) → AllByRecursion (λ d. find R d.0 es ≡ Some d.1) es
-  each_found [] sorted = tt
-  each_found (e ∷ es) sorted =
-      let parts = both_true _ _ sorted in
-      (ap (λ b. cond b (Some e.1) (find R e.0 es)) ((eq_by_cmp_equiv total).refl e.0), still_found e es es (subst T (sym parts.0) tt) (each_found es parts.1))
-
   module _ (key : V → K) (row : K → Option V) (at : (k : K) (v : V) → row k ≡ Some v → key v ≡ k) where
     under_keys : (lookup : K → Option V) → ((k : K) → lookup k ≡ row k) → (ds : List (K × V)) → AllByRecursion (λ d. lookup d.0 ≡ Some d.1) ds → AllByRecursion (λ v. row (key v) ≡ Some v) (map (λ d. d.1) ds)
     under_keys lookup held [] all = tt
@@ -54,7 +42,7 @@ module _ {K V : Type 0} (R : K → K → Ordering) (total : IsTotalOrder R) wher
         (ap row (at d.0 d.1 is) ∙ is, under_keys lookup held ds all.1)
 
     pub each_under_key : (m : FinMap R V) → ((k : K) → get m k ≡ row k) → AllByRecursion (λ v. row (key v) ≡ Some v) (values m)
-    each_under_key m held = under_keys (λ k. find R k (entries m)) (λ k. sym (get-entries m k) ∙ held k) (entries m) (each_found (entries m) (entries_sorted m))
+    each_under_key m held = under_keys (λ k. find R k (entries m)) (λ k. sym (get-entries m k) ∙ held k) (entries m) (each_found R total (entries m) (entries_sorted m))
 
   among : (k : K) (v : V) (es : List (K × V)) → find R k es ≡ Some v → Contains (map (λ (e : K × V). e.1) es) v
   among k v [] is = absurd cc
@@ -170,7 +158,7 @@ module _ (counts : Fact → Option Sold) where
       let no_facts : FinMap row.line_cmp Fact = empty in
       let made = with_rows row.fact facts no_facts in
       let shows : (key : LineKey) → get (facts_in (format_of commands) t) key ≡ get made key = λ key.
-      facts_in_are limits commands t are (format_of commands) refl key ∙ sym (found_mapped commands key (standing commands)) ∙ sym (facts_put facts no_facts key each ∙ ap (option_or (find_first (has_line key) facts)) (get-empty row.line_cmp key) ∙ or_none (find_first (has_line key) facts)) in
+      facts_in_are limits commands t are (format_of commands) refl key ∙ sym (found_mapped commands key (standing commands)) ∙ sym (facts_put facts no_facts key each ∙ ap (option_or (find_first (has_line key) facts)) (get-empty row.line_cmp key) ∙ option_or-none (find_first (has_line key) facts)) in
       let none : values no_facts ≡ [] = none_of_empty (values no_facts) (sym (len-values row.line_cmp no_facts) ∙ len-empty row.line_cmp Fact) in
       ap (λ m. summed (sums (values m))) (same_map line_cmp_total line_cmp-IsAntisymmetric (facts_in (format_of commands) t) made shows)
       ∙ sums_put facts no_facts each (none_in_empty facts)

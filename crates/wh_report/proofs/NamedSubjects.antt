@@ -8,7 +8,6 @@ use Rattle.wh_policy.specs.Policy.{attributes_of, types_of}
 use Rattle.wh_policy.specs.Types.{type_number, type_of_number, kinds_of}
 use Rattle.wh_policy.specs.declared.attribute.Attribute.{Attribute as AttributeRow}
 use Rattle.wh_policy.specs.declared.attribute.AttributeType.{AttributeType}
-use Rattle.wh_policy.specs.declared.attribute.AttributeType.TheVariants.{RetainOriginal, Overwrite, NewRow, NewAttribute, MiniDimension, MiniDimensionOutrigger, NewRowAndOverwrite, DualKeys}
 use Rattle.wh_policy.specs.declared.attribute.Dim.{Dim}
 use Rattle.wh_policy.specs.declared.attribute.Dim.TheVariants.{Product, Store, Customer}
 use Rattle.wh_policy.specs.declared.policy.Policy.{Policy}
@@ -18,16 +17,7 @@ use Rattle.wh_report.specs.Subject.{after, attribute_at, attribute_in, named_or,
 use Rattle.wh_report.specs.declared.subject.SlotAttribute.{SlotAttribute}
 use Rattle.wh_report.specs.declared.subject.Subject.{Subject}
 use Rattle.wh_report.specs.declared.subject.Subject.TheVariants.{Attribute, Month, Holiday}
-
-numbered_type : (kind : AttributeType) → type_of_number (pos (type_number kind)) ≡ Some kind
-numbered_type RetainOriginal = refl
-numbered_type Overwrite = refl
-numbered_type NewRow = refl
-numbered_type NewAttribute = refl
-numbered_type MiniDimension = refl
-numbered_type MiniDimensionOutrigger = refl
-numbered_type NewRowAndOverwrite = refl
-numbered_type DualKeys = refl
+use Rattle.wh_policy.proofs.TypeLemmas.{type_of_number-again}
 
 -- an attribute of the type stands at the place of the slot
 record StandsIn (kinds : List AttributeType) (from : ℕ) (found : ℕ × ℕ) : Type 0 where
@@ -59,7 +49,7 @@ in_dimension policy dim name a is =
     let found : ℕ × ℕ = from.0 in
     let here = stands 1 name (attributes_of policy dim) found from.1 in
     let made = made_of (λ kind. Attribute (record { dim = dim; place = found.0 - 1; kind = kind })) (type_of_number (pos found.1)) (Attribute a) from.2 in
-    let kind : here.kind ≡ made.0 = some_is _ _ (sym (numbered_type here.kind) ∙ ap (λ n. type_of_number (pos n)) here.number ∙ made.1) in
+    let kind : here.kind ≡ made.0 = some_is _ _ (sym (type_of_number-again here.kind) ∙ ap (λ n. type_of_number (pos n)) here.number ∙ made.1) in
     let same : record { dim = dim; place = found.0 - 1; kind = made.0 } ≡ a = attribute_is _ a (ap Some (sym made.2)) in
     let slot = here.slot in
     let place : here.place ≡ found.0 - 1 = omega arith in

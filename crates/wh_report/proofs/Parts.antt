@@ -23,6 +23,7 @@ use Rattle.wh_report.specs.declared.output.ReportFault.{ReportFault}
 use Rattle.wh_report.specs.declared.output.ReportFault.TheVariants.{Write, Warehouse, Unwritten, Inconsistent}
 use Rattle.wh_report.specs.declared.csv_buffer.CsvBuffer.{CsvBuffer}
 use Rattle.wh_report.proofs.Outputs.{none_out, longer, joined, sent, cut_then, cut_before}
+use Rattle.wh_history.proofs.Basics.{some_is}
 
 -- what a call says where it is answered, further on
 pub on_ok : {X E P Q : Type 0} (result : Result X E) → (P → Q) → OnOk result P → OnOk result Q
@@ -35,9 +36,6 @@ if_ok (Err e) further says = says
 
 -- ---- making a line
 
-some_same : {X : Type 0} (x y : X) → Some x ≡ Some y → x ≡ y
-some_same x y is = cc
-
 abbrev holds : Vec ℕ Global → Option (List ℕ)
 holds vec = Some vec.items
 
@@ -45,7 +43,7 @@ holds vec = Some vec.items
 pub flushed : (m n : Writer (Vec ℕ Global)) (text : List ℕ) → Keeps (text_written holds m) (text_written holds n) → writer_pending n ≡ [] → fields_written n ≡ fields_written m → has_written n ≡ has_written m → writer_setup n ≡ writer_setup m
     → AreMade m text → AreMade n text × ((writer_under n).items ≡ text)
 flushed m n text kept none fields shown setup made =
-    let same : (writer_under n).items ++ writer_pending n ≡ text = kept ∙ some_same _ _ made.held in (
+    let same : (writer_under n).items ++ writer_pending n ≡ text = kept ∙ some_is _ _ made.held in (
       record { held = ap Some same; none_begun = fields ∙ made.none_begun; none_shown = shown ∙ made.none_shown; as_csv = setup ∙ made.as_csv },
       sym (append-nil (writer_under n).items) ∙ ap (λ b. (writer_under n).items ++ b) (sym none) ∙ same,
     )

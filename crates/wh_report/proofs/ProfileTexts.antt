@@ -1,30 +1,29 @@
 -- What the profiles show: the values of a customer on the day of a sale, and the latest ones.
-use Rattle.std.proofs.Common.{◌≡◌, ℕ, zero, suc, ◌<◌, Bool, true, false, cond, List, [], ◌∷◌, map, Option, Some, None, refl, sym, ◌∙◌, ap, subst, arith}
-use Rattle.std.specs.Prelude.{slice_get, option_map, unwrap_or, bytes_eq, filter}
+use Rattle.std.proofs.Common.{◌≡◌, ℕ, zero, suc, ◌<◌, Bool, true, cond, List, [], ◌∷◌, map, Option, Some, None, refl, ◌∙◌, ap, arith}
+use Rattle.std.specs.Prelude.{slice_get, option_map, unwrap_or}
 use Rattle.std.specs.Option.{option_and_then}
 use Rattle.std.specs.List.{list_any, AllByRecursion}
 use Rattle.wh_day.specs.Day.{first_day, last_day}
-use Rattle.wh_day.specs.Value.{none_text, unknown_text, no_card_text}
+use Rattle.wh_day.specs.Value.{unknown_text, no_card_text}
 use Rattle.wh_policy.specs.Types.{is_profile, is_outrigger}
 use Rattle.wh_policy.specs.declared.attribute.AttributeType.{AttributeType}
 use Rattle.wh_policy.specs.declared.attribute.Dim.TheVariants.{Customer}
-use Rattle.wh_policy.specs.declared.record.DimensionRecord.{DimensionRecord}
-use Rattle.wh_history.specs.Accepted.{Accepted, described, types_in, change_of, changes_of, member_of, profiles_of}
+use Rattle.wh_history.specs.Accepted.{Accepted, described, types_in, changes_of, member_of, profiles_of}
 use Rattle.wh_history.specs.Dated.{dated, at, newest, said, value_at, latest}
 use Rattle.wh_history.specs.Keys.{at_place, place}
 use Rattle.wh_history.specs.Laws.{RecordsHaveDays, IsMember}
 use Rattle.wh_history.specs.Profiles.{current_profile, after_unknown, profile_now}
 use Rattle.wh_history.specs.Rows.{starts, holds}
-use Rattle.wh_history.specs.Slots.{slot, picked, picks, columns_from, are_same, padded, six}
+use Rattle.wh_history.specs.Slots.{slot, picked, picks, columns_from, are_same, six}
 use Rattle.wh_history.specs.Tables.{profile_row, profile_at}
 use Rattle.wh_history.specs.declared.member.Change.{Change}
 use Rattle.wh_history.specs.declared.rows.DimRow.{DimRow}
 use Rattle.wh_history.proofs.Basics.{or_true, texts_decide}
 use Rattle.wh_history.proofs.Effective.{found_row}
-use Rattle.wh_history.proofs.Joins.{all_weaker, all_dated}
+use Rattle.wh_history.proofs.Joins.{all_dated}
 use Rattle.wh_history.proofs.Places.{at_place-place, place-distinct_given}
 use Rattle.wh_history.proofs.Shown.{get_column, span_found}
-use Rattle.wh_history.proofs.Stays.{picks_from, IfThere, all_newest, all_at}
+use Rattle.wh_history.proofs.Stays.{IfThere, all_newest, all_at, pick, Combined, picked_in, combined_in}
 use Rattle.wh_model.proofs.ValidRows.{last_is_day}
 use Rattle.wh_report.proofs.DefinedTexts.{no_zero}
 
@@ -38,35 +37,8 @@ abbrev pub profile_text : List Accepted → ℕ → ℕ → Option (List ℕ)
 profile_text commands place number = option_and_then (λ (values : List (List ℕ)). slice_get values place) (profile_row commands number)
 
 module _ (commands : List Accepted) where
-  abbrev pick : DimensionRecord → List (List ℕ)
-  pick r = picks is_profile (types_in Customer commands) r.values
-
-  -- a change of a customer has a combination that was accepted
-  abbrev Combined : Change → Type 0
-  Combined ch = list_any (λ t. are_same t (picks is_profile (types_in Customer commands) ch.values)) (map pick (described Customer commands)) ≡ true
-
-  abbrev Picked : List DimensionRecord → DimensionRecord → Type 0
-  Picked rs r = list_any (λ t. are_same t (pick r)) (map pick rs) ≡ true
-
-  picked_in : (rs : List DimensionRecord) → AllByRecursion (Picked rs) rs
-  picked_in [] = tt
-  picked_in (r ∷ rs) = (
-    rw ((texts_decide (pick r) (pick r)).1 refl) refl,
-    all_weaker (Picked rs) (Picked (r ∷ rs)) (λ q t. rw t (or_true (are_same (pick r) (pick q)))) rs (picked_in rs),
-  )
-
-  combined_in : (natural : List ℕ) (rs : List DimensionRecord) → AllByRecursion (Picked (described Customer commands)) rs → AllByRecursion Combined (map (change_of Customer commands) (filter (λ r. bytes_eq r.natural natural) rs))
-  combined_in natural [] all = tt
-  combined_in natural (r ∷ rs) all =
-      let rest = combined_in natural rs all.1 in
-      let same : picks is_profile (types_in Customer commands) (padded none_text r.values) ≡ pick r = picks_from is_profile r.values _ 0 (types_in Customer commands) in
-      elim (bytes_eq r.natural natural) as (λ b. AllByRecursion Combined (map (change_of Customer commands) (cond b (r ∷ filter (λ r. bytes_eq r.natural natural) rs) (filter (λ r. bytes_eq r.natural natural) rs)))) [
-        | true ↦ (subst (λ (t : List (List ℕ)). list_any (λ u. are_same u t) (map pick (described Customer commands)) ≡ true) (sym same) all.0, rest)
-        | false ↦ rest
-      ]
-
-  all_combined : (natural : List ℕ) → AllByRecursion Combined (dated (changes_of Customer commands natural))
-  all_combined natural = all_dated Combined (changes_of Customer commands natural) (combined_in natural (described Customer commands) (picked_in (described Customer commands)))
+  all_combined : (natural : List ℕ) → AllByRecursion (Combined commands) (dated (changes_of Customer commands natural))
+  all_combined natural = all_dated (Combined commands) (changes_of Customer commands natural) (combined_in commands natural (described Customer commands) (picked_in commands (described Customer commands)))
 
   module _ (place_of : ℕ) (kind : AttributeType) (is : slice_get (types_in Customer commands) place_of ≡ Some kind) (counts : is_profile kind ≡ true) where
     number_shows : (n : ℕ) (texts : List (List ℕ)) → 0 < n → at_place n (profiles_of commands) ≡ Some texts → profile_text commands place_of (unwrap_or (after_unknown n) 0) ≡ slice_get (six texts) place_of
@@ -85,16 +57,16 @@ module _ (commands : List Accepted) where
         ∙ rw counts refl
 
     -- the profile that an accepted change has, or that of no change
-    profile_shows : (o : Option Change) → IfThere Combined o → profile_text commands place_of (current_profile (types_in Customer commands) (profiles_of commands) o) ≡ Some (said place_of o)
+    profile_shows : (o : Option Change) → IfThere (Combined commands) o → profile_text commands place_of (current_profile (types_in Customer commands) (profiles_of commands) o) ≡ Some (said place_of o)
     profile_shows None all = column_shows unknown_text
     profile_shows (Some ch) all =
         let texts : List (List ℕ) = picks is_profile (types_in Customer commands) ch.values in
-        let given = place-distinct_given are_same texts_decide texts (map pick (described Customer commands)) all in
+        let given = place-distinct_given are_same texts_decide texts (map (pick commands) (described Customer commands)) all in
         let there = at_place-place are_same texts_decide texts (profiles_of commands) given in
         number_shows (place are_same texts (profiles_of commands)) texts given there ∙ picks_show ch.values
 
     pub at_sale_day : (natural : List ℕ) (day : ℕ) → profile_text commands place_of (profile_at commands day natural) ≡ Some (value_at day place_of (changes_of Customer commands natural))
-    at_sale_day natural day = profile_shows (at day (dated (changes_of Customer commands natural))) (all_at Combined day (dated (changes_of Customer commands natural)) (all_combined natural))
+    at_sale_day natural day = profile_shows (at day (dated (changes_of Customer commands natural))) (all_at (Combined commands) day (dated (changes_of Customer commands natural)) (all_combined natural))
 
     pub no_card_profile : profile_text commands place_of 0 ≡ Some no_card_text
     no_card_profile = column_shows no_card_text
@@ -108,4 +80,4 @@ module _ (commands : List Accepted) where
         let shown : found.0.profile_now ≡ current_profile (types_in Customer commands) (profiles_of commands) (newest (dated (changes_of Customer commands natural))) =
         ap (λ (q : DimRow). q.profile_now) span.2 ∙ rw (any_at is_outrigger (types_in Customer commands) place_of kind is outrigger) refl in
         ap (profile_text commands place_of) shown
-        ∙ profile_shows (newest (dated (changes_of Customer commands natural))) (all_newest Combined (dated (changes_of Customer commands natural)) (all_combined natural))
+        ∙ profile_shows (newest (dated (changes_of Customer commands natural))) (all_newest (Combined commands) (dated (changes_of Customer commands natural)) (all_combined natural))

@@ -19,7 +19,7 @@ use Rattle.wh_history.specs.Accepted.{Accepted, policy_after, sold, format_of, s
 use Rattle.wh_history.specs.Tables.{Limits, dimension_row, fact_of}
 use Rattle.wh_history.specs.declared.facts.Fact.{Fact}
 use Rattle.wh_history.specs.declared.rows.DimRow.{DimRow}
-use Rattle.wh_history.proofs.Basics.{find_passes, some_is}
+use Rattle.wh_history.proofs.Basics.{some_is}
 use Rattle.wh_rows.specs.Limits.{are_limits}
 use Rattle.wh_rows.specs.Facts.{facts_in}
 use Rattle.wh_rows.specs.Rows as row
@@ -32,7 +32,7 @@ use Rattle.wh_rows.specs.declared.table.Table.{Table}
 use Rattle.wh_model.specs.Defined.{AreOf, calendar_at, day_at, fact_at, profile_at}
 use Rattle.wh_model.specs.Sound.{IsAccepted}
 use Rattle.wh_plan.proofs.FoundRows.{row_key}
-use Rattle.wh_plan.proofs.GrownFacts.{line_is}
+use Rattle.wh_plan.proofs.MovedFacts.{fact_keyed}
 use Rattle.wh_model.proofs.GrownKeys.{found_is}
 use Rattle.wh_model.proofs.GrownProfiles.{profile_keyed}
 use Rattle.wh_model.proofs.Formatted.{facts_in_are}
@@ -49,6 +49,7 @@ use Rattle.wh_engine.proofs.Decisions.{policy_in_force, sound_in_force}
 use Rattle.wh_history.proofs.Standing.{all_standing}
 use Rattle.wh_model.proofs.CountedLines.{facts_counted}
 use Rattle.wh_model.proofs.CountedSales.{standing_once, standing_counted}
+use Rattle.wh_model.proofs.WholeFacts.{on_line}
 use Rattle.wh_report.specs.Asked.{Asked}
 use Rattle.wh_report.specs.Counting.{counted, sales_of, HasNoLabel}
 use Rattle.wh_report.specs.Defined.{AreRowsOf, AreDefined}
@@ -71,7 +72,6 @@ use Rattle.wh_report.proofs.MappedRows.{are_rows, each_under_key, sums_of_sales}
 use Rattle.wh_report.proofs.ReadReports.{asks_of}
 use Rattle.wh_report.proofs.ReportLaws.{counted_as, each_of, sales_labelled}
 use Rattle.wh_report.proofs.SummedFacts.{sale_of_fact}
-use Rattle.wh_plan.proofs.MovedFacts.{on_line}
 
 -- ---- sales that come to the same
 
@@ -118,13 +118,6 @@ few_facts limits within =
     let last = and_parts _ (nat_le 1 limits.facts && nat_le limits.facts 1_000_000) within in
     let most = and_parts (nat_le 1 limits.facts) (nat_le limits.facts 1_000_000) last.1 in
     grind (arith, nat_tests)
-
-fact_keyed : (commands : List Accepted) (key : LineKey) (f : Fact) → fact_at commands key ≡ Some f → row.fact.key f ≡ key
-fact_keyed commands key f is = by_sale (find (on_line key) (standing commands)) refl is
-  where
-    by_sale : (o : Option SaleRecord) → find (on_line key) (standing commands) ≡ o → option_map (fact_of commands) o ≡ Some f → row.fact.key f ≡ key
-    by_sale None found is = absurd cc
-    by_sale (Some s) found is = ap row.fact.key (sym (some_is (fact_of commands s) f is)) ∙ line_is key (fact_of commands s) (find_passes (on_line key) s (standing commands) found)
 
 module _ (limits : Limits) (commands : List Accepted) (admitted : AreAdmitted limits commands) (t : Tables) (are : AreOf limits commands t) (r : Asked) (subject : Subject) (which : Reading) (names : subject_in (current_policy commands) r.words ≡ Some subject) (shows : reading_of subject r.mode ≡ Some which) where
   abbrev column : LabelColumn

@@ -13,6 +13,7 @@ use Rattle.wh_report.specs.Summary.{Sold, by_bytes, sum_of, totals, sold_as, lab
 use Rattle.wh_report.specs.Text.{line_text, lines_text, summed_text, heading, report_text}
 use Rattle.wh_report.specs.Laws.{EndsWith, total_line, unlabelled}
 use Rattle.wh_report.proofs.Lines.{summed_of, same_label, turned, lines_by, of_label}
+use Rattle.wh_history.proofs.Records.{or_false}
 
 -- the total
 
@@ -143,9 +144,5 @@ any_label p known (s ∷ sales) =
     or_move false true c = refl
     or_move false false c = refl
 
-or_none : (a : Bool) → (a || false) ≡ a
-or_none true = refl
-or_none false = refl
-
 pub members : (sales : List Sold) (label : List ℕ) → list_any (bytes_eq label) (labels sales) ≡ list_any (λ s. bytes_eq label s.label) sales
-members sales label = any_label (bytes_eq label) [] sales ∙ or_none (list_any (λ (s : Sold). bytes_eq label s.label) sales)
+members sales label = any_label (bytes_eq label) [] sales ∙ or_false (list_any (λ (s : Sold). bytes_eq label s.label) sales)

@@ -22,7 +22,7 @@ use Rattle.wh_rows.proofs.Answers.{is_read}
 use Rattle.wh_rows.proofs.Firsts.{is_read_first}
 
 -- what is among the first elements is among all
-has_taken : {X : Type 0} (most : ℕ) (xs : List X) (x : X) → Has (take most xs) x → Has xs x
+pub has_taken : {X : Type 0} (most : ℕ) (xs : List X) (x : X) → Has (take most xs) x → Has xs x
 has_taken zero xs x here = absurd here
 has_taken (suc most) [] x here = absurd here
 has_taken (suc most) (y ∷ xs) x (inl same) = inl same

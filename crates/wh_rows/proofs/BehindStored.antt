@@ -15,16 +15,11 @@ use Rattle.wh_rows.specs.Holds.{Layout}
 use Rattle.wh_rows.specs.Raw.{stored_cmp, IsFrontOf}
 use Rattle.wh_rows.specs.Parts.{forward, stands_behind, IsKeyed, IsArranged}
 use Rattle.wh_rows.proofs.Behind.{all_at, kept_all, narrower, few_taken, gt_is, tie_is}
+use Rattle.wh_policy.proofs.WrittenLemmas.{reverse_tied}
+use Rattle.wh_history.proofs.Joins.{all_append}
+use Rattle.wh_history.proofs.Lists.{all_front}
 
 -- ---- lists
-
-all_append : {X : Type 0} (P : X → Type 0) (xs ys : List X) → AllByRecursion P xs → AllByRecursion P ys → AllByRecursion P (xs ++ ys)
-all_append P [] ys first second = second
-all_append P (x ∷ xs) ys first second = (first.0, all_append P xs ys first.1 second)
-
-pub all_front : {X : Type 0} (P : X → Type 0) (xs ys : List X) → AllByRecursion P (xs ++ ys) → AllByRecursion P xs
-all_front P [] ys all = tt
-all_front P (x ∷ xs) ys all = (all.0, all_front P xs ys all.1)
 
 pub all_mapped : {X : Type 0} (P Q : X → Type 0) (xs : List X) → ((x : X) → P x → Q x) → AllByRecursion P xs → AllByRecursion Q xs
 all_mapped P Q [] to all = tt
@@ -95,7 +90,8 @@ mapped_last f (y ∷ xs) x ys = ap (λ l. f y ∷ l) (mapped_last f xs x ys)
 
 -- ---- orders
 
-less_not_equal : (o : Ordering) → is_gt o ≡ false → o ≢ Equal → o ≡ Less
+-- what is not above, and no tie, is below
+pub less_not_equal : (o : Ordering) → is_gt o ≡ false → o ≢ Equal → o ≡ Less
 less_not_equal Less h not = refl
 less_not_equal Equal h not = absurd (not refl)
 less_not_equal Greater h not = absurd (cc)
@@ -173,16 +169,11 @@ module _ {K V : Type 0} (layout : Layout K V) (bind : K → Row) (stands_at : K 
       stands : (r : Row) → cmp r last ≡ Equal → stands_at (layout.key v) r ≡ true
       stands r tie = keyed.tied r (layout.key v) (sym (keyed.led r v) ∙ tie)
 
-      self_tie : (o : Ordering) → o ≡ ordering_reverse o → o ≡ Equal
-      self_tie Less h = absurd (cc)
-      self_tie Equal h = refl
-      self_tie Greater h = absurd (cc)
-
       -- no row after it has its key
       apart : AllByRecursion (λ r. stands_at (layout.key v) r ≡ false) later
       apart =
           let p = stands_at (layout.key v) in
-          let here : p last ≡ true = stands last (self_tie _ (total.antisymm last last)) in
+          let here : p last ≡ true = stands last (reverse_tied _ (total.antisymm last last)) in
           let long : length (filter p front.ordered) ≡ length (filter p (filter (behind_key after) stored)) = length_permutation _ _ (IsPermutation-filter p _ _ front.same) in
           let few = fewer p (behind_key after) stored in
           let one = once (layout.key v) in

@@ -1,4 +1,5 @@
 -- What the texts of each table mean.
+mod Dimensions
 pub mod Metas
 pub mod Commands
 pub mod Members

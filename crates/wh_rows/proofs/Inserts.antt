@@ -72,13 +72,16 @@ module _ (limit : Option ℕ) (mode : Mode) (params : Row) (db : Database) (at :
   abbrev task : Task
   task = task_for limit mode params db table
 
-  uncounted_rowids : (top : ℤ) → rowids_for table top ≡ Chosen
+  -- a table that is not counted chooses the next number
+  pub uncounted_rowids : (top : ℤ) → rowids_for table top ≡ Chosen
   uncounted_rowids top = rw plain.uncounted
 
-  uncounted : (mid : Trees) (counter : Option Row) (top : ℤ) (next : Trees) → Counts task mid counter top (Ok next) → next ≡ mid
+  -- and counts nothing
+  pub uncounted : (mid : Trees) (counter : Option Row) (top : ℤ) (next : Trees) → Counts task mid counter top (Ok next) → next ≡ mid
   uncounted mid counter top next h = same_value (rw plain.uncounted at h)
 
-  unstamped : stamped table params ≡ params
+  -- a table that is not stamped adds nothing to what is given
+  pub unstamped : stamped table params ≡ params
   unstamped = rw plain.unstamped (append-nil params)
 
   abbrev edit : Rowids → List Row → Edit

@@ -16,16 +16,16 @@ pub named_so : (name : List ℕ) → IfSome (table_named name) (λ table. table_
 named_so name = named name (table_named name) refl
 
 -- a table is found by its name
-pub finds_it : (table : Table) → table_named (table_name table) ≡ Some table
-finds_it Meta = refl
-finds_it Command = refl
-finds_it Member = refl
-finds_it Change = refl
-finds_it Product = refl
-finds_it Store = refl
-finds_it Customer = refl
-finds_it Profile = refl
-finds_it Calendar = refl
-finds_it Fact = refl
-finds_it Fact2 = refl
-finds_it Void = refl
+pub named_back : (table : Table) → table_named (table_name table) ≡ Some table
+named_back Meta = refl
+named_back Command = refl
+named_back Member = refl
+named_back Change = refl
+named_back Product = refl
+named_back Store = refl
+named_back Customer = refl
+named_back Profile = refl
+named_back Calendar = refl
+named_back Fact = refl
+named_back Fact2 = refl
+named_back Void = refl

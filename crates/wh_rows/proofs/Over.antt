@@ -1,5 +1,5 @@
 -- What a statement that writes over the row of a key makes of a table.
-use Rattle.std.proofs.Common.{◌≡◌, ◌≢◌, ◌⊎◌, inl, inr, ℕ, ℤ, List, [], ◌∷◌, ◌++◌, map, filter, drop, length, ◌/◌, ◌≤◌, append-nil, Bool, true, false, not, None, Some, Ok, Err, Option, refl, sym, ap, subst, ◌∙◌, arith, Less, Equal}
+use Rattle.std.proofs.Common.{◌≡◌, ◌≢◌, ◌⊎◌, inl, inr, ℕ, ℤ, List, [], ◌∷◌, ◌++◌, map, filter, drop, length, ◌/◌, ◌≤◌, Bool, true, false, not, None, Some, Ok, Err, Option, refl, sym, ap, subst, ◌∙◌, arith, Less, Equal}
 use Rattle.std.specs.List.{AllByRecursion}
 use Rattle.std.specs.List.Sorted.{IsPermutation}
 use Rattle.std.proofs.lemmas.Bool.{and_parts, not-true, cases_Bool}
@@ -30,7 +30,7 @@ use Rattle.sqlite_rules.specs.declared.error.Refusal.{Refusal}
 use Rattle.sqlite_rules.proofs.ListLemmas.{all_has, all_from}
 use Rattle.sqlite.specs.declared.run.Mode.{Mode}
 use Rattle.sqlite.specs.Effect.{Database, value_rows, edit_error}
-use Rattle.sqlite.specs.Rows.{Written, Task, Puts, Clears, Upserts, Updates, Judged, Tries, TriesEach, InsertsOr, Counts, rowids_for, stamped, nothing, count_of, shown}
+use Rattle.sqlite.specs.Rows.{Written, Task, Puts, Clears, Upserts, Updates, Judged, Tries, TriesEach, InsertsOr, rowids_for, nothing, count_of, shown}
 use Rattle.sqlite.specs.Does.{Tally, Does, AtPlace, OnRows}
 use Rattle.sqlite.proofs.Callers.{one_step, one_permutation}
 use Rattle.wh_rows.specs.Statements.{reading}
@@ -38,6 +38,7 @@ use Rattle.wh_rows.specs.Meaning.{IsPlainTable, passes}
 use Rattle.wh_rows.specs.Holds.{IsRising}
 use Rattle.wh_rows.proofs.Answers.{is_read}
 use Rattle.wh_rows.proofs.Edits.{Names, passing_names, without_named, went, same_value, task_for, concluded}
+use Rattle.wh_rows.proofs.Inserts.{uncounted_rowids, uncounted, unstamped}
 
 -- ---- the one row of a list
 
@@ -228,23 +229,14 @@ module _ (limit : Option ℕ) (mode : Mode) (params : Row) (db : Database) (at :
           go None h = meets h.0 w h.1 h.2
           go (Some why) h = absurd (let e : Ok w ≡ Err (Some (edit_error why)) = h in cc)
 
-      uncounted_rowids : (top : ℤ) → rowids_for table top ≡ Chosen
-      uncounted_rowids top = rw plain.uncounted
-
       one_try : (source : Row) (top : ℤ) (done : Written × ℤ) → cast_row table source ≡ source → with_rowid Chosen there source ≡ new
           → TriesEach task Abort (clause ∷ []) (source ∷ []) top (nothing db.trees) (Ok done) → Is done.0.trees
       one_try source top done whole is h =
           let one = went h in
           let it : with_rowid (rowids_for table top) there (cast_row table source) ≡ new =
-          ap (λ ids. with_rowid ids there (cast_row table source)) (uncounted_rowids top) ∙ ap (with_rowid Chosen there) whole ∙ is in
+          ap (λ ids. with_rowid ids there (cast_row table source)) (uncounted_rowids limit mode params db at table plain top) ∙ ap (with_rowid Chosen there) whole ∙ is in
           let tried = subst (λ new. Tries task Abort (clause ∷ []) new db.trees (Ok one.0)) it one.1 in
           subst (λ (d : Written × ℤ). Is d.0.trees) (sym (same_value one.2)) (tries one.0 tried)
-
-      uncounted : (mid : Trees) (counter : Option Row) (top : ℤ) (next : Trees) → Counts task mid counter top (Ok next) → next ≡ mid
-      uncounted mid counter top next h = same_value (rw plain.uncounted at h)
-
-      unstamped : stamped table params ≡ params
-      unstamped = rw plain.unstamped (append-nil params)
 
       inserts : (terms : List Term) (width : ℕ) (source : Row) (w : Written) → value_rows params width (length terms / width) terms ≡ source ∷ [] → cast_row table source ≡ source
           → with_rowid Chosen there source ≡ new → InsertsOr task Abort (clause ∷ []) (Values terms width) db.trees (Ok w) → Is w.trees
@@ -253,10 +245,10 @@ module _ (limit : Option ℕ) (mode : Mode) (params : Row) (db : Database) (at :
           let counter = went given.2 in
           let each = went counter.2 in
           let end = went each.2 in
-          let rows : given.0 ≡ source ∷ [] = given.1.1 ∙ ap (λ p. value_rows p width (length terms / width) terms) unstamped ∙ one in
+          let rows : given.0 ≡ source ∷ [] = given.1.1 ∙ ap (λ p. value_rows p width (length terms / width) terms) (unstamped limit mode params db at table plain) ∙ one in
           let tried = subst (λ rows. TriesEach task Abort (clause ∷ []) rows (count_of counter.0) (nothing db.trees) (Ok each.0)) rows each.1 in
           let put = one_try source (count_of counter.0) each.0 whole same tried in
-          let is : w.trees ≡ each.0.0.trees = ap (λ (w : Written). w.trees) (same_value end.2) ∙ uncounted each.0.0.trees counter.0 each.0.1 end.0 end.1 in
+          let is : w.trees ≡ each.0.0.trees = ap (λ (w : Written). w.trees) (same_value end.2) ∙ uncounted limit mode params db at table plain each.0.0.trees counter.0 each.0.1 end.0 end.1 in
           subst Is (sym is) put
 
       -- the statement

@@ -13,7 +13,7 @@ use sqlite::Row;
 use sqlite::types::{Bytes, ValueRef};
 use std::alloc::Global;
 use thiserror::Error;
-use wh_day::{Day, ParseError, Value, Values, is_key};
+use wh_day::{Day, KEY_LIMIT, ParseError, Value, Values, is_key};
 use wh_history::GREATEST_NUMBER;
 use wh_policy::Dim;
 
@@ -203,8 +203,10 @@ fn is_natural(dim: Dim, surrogate: u64, text: &str) -> bool
     ensures { result ≡ is_natural dim surrogate text.now }
 {
     match dim {
-        Dim::Product | Dim::Store => is_key(32, text.as_bytes()),
-        Dim::Customer => { is_key(32, text.as_bytes()) || surrogate == 0 && text == "(no card)" }
+        Dim::Product | Dim::Store => is_key(KEY_LIMIT, text.as_bytes()),
+        Dim::Customer => {
+            is_key(KEY_LIMIT, text.as_bytes()) || surrogate == 0 && text == "(no card)"
+        }
     }
 }
 

@@ -16,7 +16,7 @@ pub use cause::Cause;
 pub use columns::Damaged;
 pub use key::{ChangeKey, LineKey, MemberKey, dim_number};
 pub use keyed_sale::{FactColumn, KeyedSale};
-pub use limits::Limits;
+pub use limits::{ID_LIMIT, Limits, MOST_CHANGES, MOST_COMMANDS, MOST_FACTS};
 pub use rows::{ChangeRow, CommandRow, MemberRow, MetaRow, ProfileRow, VoidRow};
 pub use table::Table;
 pub use tables::StoredTable;

@@ -5,6 +5,18 @@ ghost use Rattle.wh_rows.specs.Limits.{is_limit, limits_of, greatest_limits};
 
 use std::marker::Model;
 
+/// The most bytes of a command's id.
+pub const ID_LIMIT: usize = 40;
+
+/// The most commands that a warehouse can be made for, with the making.
+pub const MOST_COMMANDS: u64 = 100_000;
+
+/// The most changes of members that one can be made for.
+pub const MOST_CHANGES: u64 = 1_000_000;
+
+/// The most facts that one can be made for, with withdrawn ones.
+pub const MOST_FACTS: u64 = 1_000_000;
+
 /// How many commands (with the making), changes of members and facts (with withdrawn ones) a warehouse takes. They are chosen at its making, and
 /// kept.
 #[derive(Clone, Copy, Debug, PartialEq, Eq)]
@@ -33,9 +45,9 @@ impl Limits {
     pub fn new(commands: u64, changes: u64, facts: u64) -> Option<Limits>
         ensures { result ≡ limits_of commands changes facts }
     {
-        if is_limit(100_000, commands)
-            && is_limit(1_000_000, changes)
-            && is_limit(1_000_000, facts)
+        if is_limit(MOST_COMMANDS, commands)
+            && is_limit(MOST_CHANGES, changes)
+            && is_limit(MOST_FACTS, facts)
         {
             Some(Limits {
                 commands,
@@ -76,9 +88,9 @@ impl Limits {
         ensures { result ≡ greatest_limits }
     {
         Limits {
-            commands: 100_000,
-            changes: 1_000_000,
-            facts: 1_000_000,
+            commands: MOST_COMMANDS,
+            changes: MOST_CHANGES,
+            facts: MOST_FACTS,
         }
     }
 }

@@ -5,10 +5,11 @@ ghost use Rattle.wh_day.specs.Reading.{Gives};
 ghost use Rattle.wh_rows.specs.Stored.{meta_of, command_of, member_of, change_of, dimension_of, profile_of, date_of, fact_columns, fact_of, fact2_of, void_of};
 
 use crate::columns::{self, Damaged};
+use crate::limits::ID_LIMIT;
 use crate::rows::{ChangeRow, CommandRow, MemberRow, MetaRow, ProfileRow, VoidRow};
 use sqlite::Row;
 use std::alloc::Global;
-use wh_day::{DateRow, ParseError};
+use wh_day::{DateRow, KEY_LIMIT, ParseError, TICKET_LIMIT};
 use wh_history::{DimRow, Fact, FactKeys};
 use wh_policy::Dim;
 
@@ -34,7 +35,7 @@ pub(crate) fn read_command(alloc: Global, row: &Row) -> Result<CommandRow, Parse
         return Err(ParseError::Fault(Damaged));
     }
     let number = columns::number(row, 0)?;
-    let id = columns::key(alloc, 40, row, 1)?;
+    let id = columns::key(alloc, ID_LIMIT, row, 1)?;
     let kind = columns::kind(alloc, row, 2)?;
     let bytes = columns::blob(alloc, row, 3)?;
     let records = columns::number(row, 4)?;
@@ -59,7 +60,7 @@ pub(crate) fn read_member(alloc: Global, row: &Row) -> Result<MemberRow, ParseEr
     }
     let dim = columns::dim(row, 0)?;
     let durable = columns::number(row, 1)?;
-    let natural = columns::key(alloc, 32, row, 2)?;
+    let natural = columns::key(alloc, KEY_LIMIT, row, 2)?;
     let opening = columns::number(row, 3)?;
     Ok(MemberRow {
         dim,
@@ -208,7 +209,7 @@ pub(crate) fn read_void(alloc: Global, row: &Row) -> Result<VoidRow, ParseError<
     if row.column_count() != 3 {
         return Err(ParseError::Fault(Damaged));
     }
-    let ticket = columns::key(alloc, 20, row, 0)?;
+    let ticket = columns::key(alloc, TICKET_LIMIT, row, 0)?;
     let line = columns::line(row, 1)?;
     let command = columns::number(row, 2)?;
     Ok(VoidRow {
@@ -222,7 +223,7 @@ pub(crate) fn read_void(alloc: Global, row: &Row) -> Result<VoidRow, ParseError<
 fn fact_columns(alloc: Global, row: &Row) -> Result<Fact, ParseError<Damaged>>
     ensures { Gives (λ r. r) result (fact_columns row.now) }
 {
-    let ticket = columns::key(alloc, 20, row, 0)?;
+    let ticket = columns::key(alloc, TICKET_LIMIT, row, 0)?;
     let line = columns::line(row, 1)?;
     let day = columns::day(row, 2)?;
     let store_key = columns::number(row, 3)?;

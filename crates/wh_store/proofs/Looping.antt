@@ -8,6 +8,7 @@ use Rattle.wh_rows.specs.Holds.{Layout}
 use Rattle.wh_rows.specs.Place.{IsPlaced}
 use Rattle.wh_rows.specs.Tables.{Tables}
 use Rattle.wh_rows.specs.Steps.{after_all}
+use Rattle.wh_history.proofs.Lists.{all_apart}
 
 next : {X : Type 0} (xs : List X) (i : ℕ) (d : X) → i < length xs → drop i xs ≡ get_or xs i d ∷ drop (i + 1) xs
 next xs i d within = grind (arith, common_steps, drop-cons)
@@ -22,10 +23,6 @@ none_left xs i over = grind (arith, common_steps)
 pub in_parts : {E M : Type 0} (step : E → M → M) (part rest : List E) (m : M) → after_all step (part ++ rest) m ≡ after_all step rest (after_all step part m)
 in_parts step [] rest m = refl
 in_parts step (e ∷ part) rest m = in_parts step part rest (step e m)
-
-pub all_parts : {E : Type 0} (may : E → Type 0) (part rest : List E) → AllByRecursion may (part ++ rest) → AllByRecursion may part × AllByRecursion may rest
-all_parts may [] rest all = (tt, all)
-all_parts may (e ∷ part) rest all = let both = all_parts may part rest all.1 in ((all.0, both.0), both.1)
 
 -- tables on the way to a whole: each step that is left may be taken, and they lead there
 pub record IsOnTheWay {E M : Type 0} (step : E → M → M) (may : E → Type 0) (rows : Tables → M) (with_rows : M → Tables → Tables) (left : List E) (now whole : Tables) : Type 0 where
@@ -54,14 +51,14 @@ module _ {K V E : Type 0} (layout : Layout K V) (step : E → FinMap layout.orde
   module _ (part rest : List E) (now whole : Tables) (way : IsOnTheWay step may rows with_rows (part ++ rest) now whole) where
     -- the next steps may be taken
     pub part_may : AllByRecursion may part
-    part_may = (all_parts may part rest way.may_all).0
+    part_may = (all_apart may part rest way.may_all).0
 
     -- and leave the rest
     pub part_way : IsOnTheWay step may rows with_rows rest (with_rows (after_all step part (rows now)) now) whole
     part_way =
         let m = after_all step part (rows now) in
         record {
-          may_all = (all_parts may part rest way.may_all).1;
+          may_all = (all_apart may part rest way.may_all).1;
           leads = ap (λ n. with_rows (after_all step rest n) (with_rows m now)) (placed.put_in m now) ∙ placed.put_again (after_all step rest m) m now ∙ ap (λ n. with_rows n now) (sym (in_parts step part rest (rows now))) ∙ way.leads;
         }
 

@@ -75,7 +75,7 @@ opened_blank image s nothing (inl there) opens live settled = absurd (∥∥₁_
 opened_blank image s nothing (inr made) opens live settled = opened_rests None s s.committed.trees (hold_nothing s.committed.trees made.1) opens live refl settled
 
 -- a database with no object in it holds nothing
-no_object : (db : Database) → IsDatabase db → db.schema ≡ no_schema → AreTrees None db.trees
+pub no_object : (db : Database) → IsDatabase db → db.schema ≡ no_schema → AreTrees None db.trees
 no_object db sound schema = record { schema = refl; sound = subst (λ s. IsDatabase (record { schema = s; trees = db.trees })) schema sound; tables = tt }
 
 -- a connection over memory that was just opened

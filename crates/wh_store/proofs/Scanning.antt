@@ -39,6 +39,7 @@ pub none_handed : {V : Type 0} (items rest unread : List V) (is_over : Bool) →
 none_handed items rest unread true none left nothing = (rw none refl, rw left refl)
 none_handed items rest unread false none left nothing = (rw (none, nothing) refl, rw (left, nothing) refl)
 
+-- what is no element is none
 pub none_is : {V : Type 0} (found : Option V) → ((x : V) → found ≡ Some x → ⊥) → found ≡ None
 none_is None not = refl
 none_is (Some x) not = absurd (not x refl)

@@ -1,6 +1,7 @@
 -- Edits of one table, one after the other.
 use Rattle.std.specs.Prelude.{◌≡◌, ℕ, List, [], ◌∷◌, map, flat_map, take, IsTrue, ⊤}
 use Rattle.std.specs.FinMap.{FinMap, remove}
+use Rattle.sqlite_rules.specs.Lists.{Has}
 use Rattle.sqlite.specs.Order.{Row}
 use Rattle.wh_history.specs.declared.plan.Edit.{Edit}
 use Rattle.wh_history.specs.declared.plan.Edit.TheVariants.{Put, Remove}
@@ -27,6 +28,10 @@ Puts P (Remove key) = ⊤
 abbrev pub IsOfTypes : {K V : Type 0} (layout : Layout K V) → Edit V K → Type 0
 IsOfTypes layout (Put row) = IsTrue (layout.is_valid row)
 IsOfTypes layout (Remove key) = (row : _) × IsTrue (layout.is_valid row) × (layout.key row ≡ key)
+
+-- so is each of these
+abbrev pub AreOfTypes : {K V : Type 0} → Layout K V → List (Edit V K) → Type 0
+AreOfTypes {K = K} {V = V} layout edits = (edit : Edit V K) → Has edits edit → IsOfTypes layout edit
 
 -- the statement that makes an edit, with its parameters
 abbrev pub statement_of : {K V : Type 0} (layout : Layout K V) (texts : Texts) (bind : K → Row) → Edit V K → List ℕ × Row

@@ -1,12 +1,20 @@
 -- The rows that a scan has still to hand out.
-use Rattle.std.specs.Prelude.{◌≡◌, List, [], ◌∷◌, ◌++◌, map, filter, Bool, true, false, Option, None, Some, if◌then◌else◌, IsTrue}
+use Rattle.std.specs.Prelude.{◌≡◌, List, [], ◌∷◌, ◌++◌, map, filter, Bool, true, false, Option, None, Some, Result, if◌then◌else◌, IsTrue, IfErr}
 use Rattle.std.specs.List.{list_all}
 use Rattle.std.specs.FinMap.{FinMap, values}
 use Rattle.std.specs.Vec.Iter.{into_iter_items}
+use Rattle.sqlite_trees.specs.declared.store.Store.{Ghosts}
 use Rattle.sqlite.specs.Order.{Row}
+use Rattle.sqlite.specs.State.{HasCleanDisk}
 use Rattle.wh_rows.specs.Holds.{Layout}
-use Rattle.wh_rows.specs.Parts.{is_behind, stands_behind, IsArranged}
+use Rattle.wh_rows.specs.Parts.{PartTexts, forward, part_text, bind_part, is_behind, stands_behind, IsArranged}
+use Rattle.wh_rows.specs.declared.table.Table.{Table}
+use Rattle.wh_sql.specs.Page.{HasKey}
+use Rattle.wh_sql.specs.Reads.{IsOfAskedDamage, FailsToShow}
+use Rattle.wh_sql.specs.declared.fault.ReadFault.{ReadFault}
+use Rattle.wh_store.specs.Reads.{state_of, SaysAsStored}
 use Rattle.wh_store.specs.declared.scan.Cursor.{Cursor}
+use Rattle.wh_store.specs.declared.tables.Tables.{Tables}
 
 -- of a table, those that were read ahead, and then those after the last of them
 abbrev pub rows_left : {K V : Type 0} (layout : Layout K V) → FinMap layout.order V → Cursor K V → List V
@@ -47,3 +55,15 @@ HandsOutOf layout bind stored before found after = HandsOutSo layout bind stored
 -- those that were read ahead are of their types
 abbrev pub AreValid : {K V : Type 0} → Layout K V → Cursor K V → Type 0
 AreValid layout cursor = IsTrue (list_all layout.is_valid (into_iter_items cursor.ahead))
+
+-- ---- why the next part isn't read
+
+-- The question for the part of a table after a key of it fails: memory ran out, the answer has a damaged row, or the store refused the question.
+abbrev pub FailsToShowPart : {S K V A : Type 0} → Ghosts S → Layout K V → Table → PartTexts → (K → Row) → Option K → Tables S → Tables S → Result A ReadFault → Type 0
+FailsToShowPart g layout table texts bind after old new result =
+    HasCleanDisk (state_of g new) → HasKey layout after → IfErr result (FailsToShow layout table (part_text texts after) (bind_part bind after) (state_of g old) (state_of g new))
+
+-- the damage that it reports is that of a row of this part, of any rows that are stored
+abbrev pub IsOfDamagedPart : {S K V A : Type 0} → Ghosts S → Layout K V → Table → PartTexts → (K → Row) → Option K → Tables S → Tables S → Result A ReadFault → Type 0
+IsOfDamagedPart g layout table texts bind after old new result =
+    SaysAsStored (state_of g old) (state_of g new) (λ stored. IfErr result (IsOfAskedDamage (Some (forward texts.most)) layout table (filter (stands_behind layout bind after) (stored.rows table))))

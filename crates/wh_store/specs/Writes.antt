@@ -1,9 +1,15 @@
 -- What a call inside a transaction leaves, what it makes, and what a transaction leaves that is undone.
-use Rattle.std.specs.Prelude.{◌≡◌, ◌≤◌, Bool, Option, Some, Result, Ok, Err, OnOk, IsTrue}
+use Rattle.std.specs.Prelude.{◌≡◌, ◌≢◌, ◌≤◌, ℕ, Bool, List, Option, Some, Result, Ok, Err, OnOk, IfErr, IsTrue}
+use Rattle.sqlite_trees.specs.declared.store.Store.{Ghosts}
+use Rattle.sqlite.specs.Order.{Row}
 use Rattle.sqlite.specs.State.{State, HasCleanDisk}
 use Rattle.wh_rows.specs.declared.cause.Cause.{Cause}
-use Rattle.wh_rows.specs.AtRest.{IsAtRest, IsWriting, Leaves}
+use Rattle.wh_rows.specs.declared.cause.Cause.TheVariants.{Memory}
+use Rattle.wh_rows.specs.AtRest.{IsAtRest, IsWriting, Leaves, IsCauseOf}
 use Rattle.wh_rows.specs.Tables.{Tables}
+use Rattle.wh_sql.specs.Refused.{IsOneRefused}
+use Rattle.wh_store.specs.Reads.{state_of}
+use Rattle.wh_store.specs.declared.tables.Tables.{Tables as Opened}
 
 -- Where the disk returned what was written until now, it did so before, and no fault is forgotten; and where the rows may be put, a crash leaves what
 -- the transaction began with.
@@ -24,3 +30,11 @@ NotesRefusals old new (Err _) = IsTrue new
 -- a crash leaves what the transaction began with, and so does the connection where it is still open
 abbrev pub Undoes : State → State → Type 0
 Undoes old new = HasCleanDisk new → (before made : Option Tables) → IsWriting before made old → Leaves before new × (IsTrue new.is_open → IsAtRest before new)
+
+-- what is so inside a transaction that has made tables
+abbrev pub SaysInWriting : {S : Type 0} → Ghosts S → Opened S → Opened S → Type 0 → Type 0
+SaysInWriting g old new fact = HasCleanDisk (state_of g new) → (before : Option Tables) (made : Tables) → IsWriting before (Some made) (state_of g old) → fact
+
+-- an error that is not of memory tells which of these statements the store refused, and why
+abbrev pub TellsRefused : {S A : Type 0} → Ghosts S → List (List ℕ × Row) → Opened S → Opened S → Result A Cause → Type 0
+TellsRefused g statements old new result = IfErr result (λ cause. cause ≢ Memory → IsOneRefused g IsCauseOf statements old.conn new.conn cause)

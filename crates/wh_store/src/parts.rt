@@ -1,18 +1,12 @@
 //! Edits that are made in parts: sixteen new rows in one statement, all others one by one.
 
-ghost use Rattle.std.specs.Prelude.{◌≡◌, ◌≢◌, ◌+◌, ◌≤◌, map, length, Option, Some, IfOk, IfErr, OnOk};
+ghost use Rattle.std.specs.Prelude.{◌≡◌, ◌+◌, ◌≤◌, map, length, Option, Some, IfOk, OnOk};
 ghost use Rattle.std.specs.List.{AllByRecursion};
-ghost use Rattle.sqlite.specs.State.{HasCleanDisk};
-ghost use Rattle.sqlite_rules.specs.Lists.{Has};
 ghost use Rattle.wh_history.specs.declared.plan.Edit.TheVariants.{Put};
-ghost use Rattle.wh_rows.specs.declared.cause.Cause.TheVariants.{Memory};
-ghost use Rattle.wh_rows.specs.AtRest.{IsWriting, IsCauseOf};
-ghost use Rattle.wh_rows.specs.Tables.{Tables as TypedTables};
 ghost use Rattle.wh_rows.specs.Steps.{after_all};
-ghost use Rattle.wh_sql.specs.Refused.{IsOneRefused};
 ghost use Rattle.wh_store.specs.Reads.{state_of};
-ghost use Rattle.wh_store.specs.Writes.{WritesOnly, Makes, NotesRefusals};
-ghost use Rattle.wh_store.specs.Edits.{with_edit, IsValid, Puts, IsOfTypes, part_statements, statements_in_parts};
+ghost use Rattle.wh_store.specs.Writes.{WritesOnly, Makes, NotesRefusals, SaysInWriting, TellsRefused};
+ghost use Rattle.wh_store.specs.Edits.{with_edit, IsValid, Puts, AreOfTypes, part_statements, statements_in_parts};
 
 use crate::writing::Writing;
 use sqlite::Alter;
@@ -48,8 +42,8 @@ impl<'t, S: Alter> Writing<'t, S> {
         ensures same_reference { self.new.tables.ghost_name ≡ self.old.tables.ghost_name }
         ensures writes { WritesOnly (state_of S.Store self.old.tables.now) (state_of S.Store self.new.tables.now) (AllByRecursion (Puts (IsValid T.layout)) edits.now) }
         ensures edited { Makes (state_of S.Store self.old.tables.now) (state_of S.Store self.new.tables.now) result (AllByRecursion (Puts (IsValid T.layout)) edits.now) (λ made. T.with_rows (after_all (with_edit T.layout) edits.now (T.rows made)) made) }
-        ensures cause { HasCleanDisk (state_of S.Store self.new.tables.now) → (before : Option TypedTables) (made : TypedTables) → IsWriting before (Some made) (state_of S.Store self.old.tables.now) → AllByRecursion (Puts (IsValid T.layout)) edits.now → ((edit : _) → Has edits.now edit → IsOfTypes T.layout edit) → self.old.writes + length edits.now ≤ u64.MAX
-            → IfErr result (λ cause. cause ≢ Memory → IsOneRefused S.Store IsCauseOf (part_statements T.layout T.texts T.bind T.insert_means edits.now) self.old.tables.now.conn self.new.tables.now.conn cause) }
+        ensures cause { SaysInWriting S.Store self.old.tables.now self.new.tables.now (AllByRecursion (Puts (IsValid T.layout)) edits.now → AreOfTypes T.layout edits.now → self.old.writes + length edits.now ≤ u64.MAX
+            → TellsRefused S.Store (part_statements T.layout T.texts T.bind T.insert_means edits.now) self.old.tables.now self.new.tables.now result) }
         ensures counted { OnOk result (self.new.writes ≡ self.old.writes + length edits.now) }
         ensures noted { NotesRefusals self.old.refused self.new.refused result }
     {
@@ -71,8 +65,8 @@ impl<'t, S: Alter> Writing<'t, S> {
         ensures same_reference { self.new.tables.ghost_name ≡ self.old.tables.ghost_name }
         ensures writes { WritesOnly (state_of S.Store self.old.tables.now) (state_of S.Store self.new.tables.now) (AllByRecursion (Puts (IsValid T.layout)) edits.now) }
         ensures edited { Makes (state_of S.Store self.old.tables.now) (state_of S.Store self.new.tables.now) result (AllByRecursion (Puts (IsValid T.layout)) edits.now) (λ made. T.with_rows (after_all (with_edit T.layout) edits.now (T.rows made)) made) }
-        ensures cause { HasCleanDisk (state_of S.Store self.new.tables.now) → (before : Option TypedTables) (made : TypedTables) → IsWriting before (Some made) (state_of S.Store self.old.tables.now) → AllByRecursion (Puts (IsValid T.layout)) edits.now → ((edit : _) → Has edits.now edit → IsOfTypes T.layout edit) → self.old.writes + length edits.now ≤ u64.MAX
-            → IfErr result (λ cause. cause ≢ Memory → IsOneRefused S.Store IsCauseOf (statements_in_parts T.layout T.texts T.bind T.insert_means edits.now) self.old.tables.now.conn self.new.tables.now.conn cause) }
+        ensures cause { SaysInWriting S.Store self.old.tables.now self.new.tables.now (AllByRecursion (Puts (IsValid T.layout)) edits.now → AreOfTypes T.layout edits.now → self.old.writes + length edits.now ≤ u64.MAX
+            → TellsRefused S.Store (statements_in_parts T.layout T.texts T.bind T.insert_means edits.now) self.old.tables.now self.new.tables.now result) }
         ensures counted { OnOk result (self.new.writes ≡ self.old.writes + length edits.now) }
         ensures noted { NotesRefusals self.old.refused self.new.refused result }
     {

@@ -1,19 +1,18 @@
 //! The rows of a table, one at a time.
 
-ghost use Rattle.std.specs.Prelude.{◌≡◌, List, [], ◌-◌, false, Ok, None, Some, Option, option_map, slice_get, length, filter, IsTrue, IfSome, IfOk, IfErr, OnErr};
+ghost use Rattle.std.specs.Prelude.{◌≡◌, List, [], ◌-◌, false, Ok, None, Option, option_map, slice_get, length, IsTrue, IfSome, IfOk, OnErr};
 ghost use Rattle.std.specs.FinMap.{FinMap, values};
 ghost use Rattle.std.specs.Vec.Iter.{into_iter_items};
-ghost use Rattle.sqlite.specs.State.{HasCleanDisk};
 ghost use Rattle.wh_rows.specs.Holds.{Layout};
 ghost use Rattle.wh_rows.specs.Names.{is_there};
 ghost use Rattle.wh_rows.specs.Tables.{Tables as TypedTables};
-ghost use Rattle.wh_rows.specs.Parts.{forward, part_text, bind_part, stands_behind, IsArranged};
+ghost use Rattle.wh_rows.specs.Parts.{IsArranged};
 ghost use Rattle.wh_rows.specs.Raw.{Stored};
 ghost use Rattle.sqlite.specs.Order.{Row as Columns};
 ghost use Rattle.wh_sql.specs.Page.{HasKey};
-ghost use Rattle.wh_sql.specs.Reads.{ReadsOnly, IsOfAskedDamage, FailsToShow};
+ghost use Rattle.wh_sql.specs.Reads.{ReadsOnly};
 ghost use Rattle.wh_store.specs.Reads.{state_of, SaysAtRest, SaysAsStored, SaysInFormat, SaysAsStoredIn};
-ghost use Rattle.wh_store.specs.Scan.{rows_left, HandsOut, IsOver, AreLeft, HandsOutOf, AreValid};
+ghost use Rattle.wh_store.specs.Scan.{rows_left, HandsOut, IsOver, AreLeft, HandsOutOf, AreValid, FailsToShowPart, IsOfDamagedPart};
 
 use crate::tables::Tables;
 use sqlite::Alter;
@@ -72,8 +71,8 @@ fn read_ahead<T: PagedTable, S: Alter>(
     ensures stored { SaysAsStored (state_of S.Store tables.old) (state_of S.Store tables.new) (λ stored. IfOk result (λ _. cursor.old.is_over ≡ false → into_iter_items cursor.old.ahead ≡ [] → (left : List Columns)
         → AreLeft T.StoredTable.layout T.KeyedTable.bind (stored.rows T.KeyedTable.name) cursor.new left → AreLeft T.StoredTable.layout T.KeyedTable.bind (stored.rows T.KeyedTable.name) cursor.old left)) }
     // A row of the part that is damaged is reported.
-    ensures damaged { SaysAsStored (state_of S.Store tables.old) (state_of S.Store tables.new) (λ stored. IfErr result (IsOfAskedDamage (Some (forward T.part_texts.most)) T.StoredTable.layout T.KeyedTable.name (filter (stands_behind T.StoredTable.layout T.KeyedTable.bind cursor.old.unread.after) (stored.rows T.KeyedTable.name)))) }
-    ensures refused { HasCleanDisk (state_of S.Store tables.new) → HasKey T.StoredTable.layout cursor.old.unread.after → IfErr result (FailsToShow T.StoredTable.layout T.KeyedTable.name (part_text T.part_texts cursor.old.unread.after) (bind_part T.KeyedTable.bind cursor.old.unread.after) (state_of S.Store tables.old) (state_of S.Store tables.new)) }
+    ensures damaged { IsOfDamagedPart S.Store T.StoredTable.layout T.KeyedTable.name T.part_texts T.KeyedTable.bind cursor.old.unread.after tables.old tables.new result }
+    ensures refused { FailsToShowPart S.Store T.StoredTable.layout T.KeyedTable.name T.part_texts T.KeyedTable.bind cursor.old.unread.after tables.old tables.new result }
     ensures keyed { SaysAsStored (state_of S.Store tables.old) (state_of S.Store tables.new) (λ _. IfOk result (λ _. HasKey T.StoredTable.layout cursor.new.unread.after)) }
     // All that is read ahead is of its type.
     ensures valid { SaysAsStored (state_of S.Store tables.old) (state_of S.Store tables.new) (λ _. IfOk result (λ _. AreValid T.StoredTable.layout cursor.new)) }
@@ -106,8 +105,8 @@ pub fn next_row<T: PagedTable, S: Alter>(
     // What is handed out is of its type.
     ensures valid { SaysAsStoredIn S.Store T.KeyedTable.name format tables.old tables.new (λ _. AreValid T.StoredTable.layout cursor.old → IfOk result (λ found. IfSome found (λ row. IsTrue (T.StoredTable.layout.is_valid row)) × AreValid T.StoredTable.layout cursor.new)) }
     // A damaged row is reported with the part that it is in.
-    ensures damaged { SaysAsStored (state_of S.Store tables.old) (state_of S.Store tables.new) (λ stored. IfErr result (IsOfAskedDamage (Some (forward T.part_texts.most)) T.StoredTable.layout T.KeyedTable.name (filter (stands_behind T.StoredTable.layout T.KeyedTable.bind cursor.old.unread.after) (stored.rows T.KeyedTable.name)))) }
-    ensures refused { HasCleanDisk (state_of S.Store tables.new) → HasKey T.StoredTable.layout cursor.old.unread.after → IfErr result (FailsToShow T.StoredTable.layout T.KeyedTable.name (part_text T.part_texts cursor.old.unread.after) (bind_part T.KeyedTable.bind cursor.old.unread.after) (state_of S.Store tables.old) (state_of S.Store tables.new)) }
+    ensures damaged { IsOfDamagedPart S.Store T.StoredTable.layout T.KeyedTable.name T.part_texts T.KeyedTable.bind cursor.old.unread.after tables.old tables.new result }
+    ensures refused { FailsToShowPart S.Store T.StoredTable.layout T.KeyedTable.name T.part_texts T.KeyedTable.bind cursor.old.unread.after tables.old tables.new result }
     ensures keyed { SaysAsStoredIn S.Store T.KeyedTable.name format tables.old tables.new (λ _. HasKey T.StoredTable.layout cursor.old.unread.after → IfOk result (λ _. HasKey T.StoredTable.layout cursor.new.unread.after)) }
     ensures ended { OnErr result (IsOver cursor.new) }
     ensures over { IsOver cursor.old → (result ≡ Ok None) × (tables.new ≡ tables.old) × IsOver cursor.new }
@@ -147,8 +146,8 @@ impl<'t, S: Alter, T: PagedTable> Scan<'t, S, T> {
         // Of any stored rows none is missed and none comes twice.
         ensures stored { SaysAsStoredIn S.Store T.KeyedTable.name self.old.format self.old.tables.now self.new.tables.now (λ stored. IfOk result (λ found. HandsOutOf T.StoredTable.layout T.KeyedTable.bind (stored.rows T.KeyedTable.name) self.old.cursor found self.new.cursor)) }
         // A damaged row is reported with the part that it is in.
-        ensures damaged { SaysAsStored (state_of S.Store self.old.tables.now) (state_of S.Store self.new.tables.now) (λ stored. IfErr result (IsOfAskedDamage (Some (forward T.part_texts.most)) T.StoredTable.layout T.KeyedTable.name (filter (stands_behind T.StoredTable.layout T.KeyedTable.bind self.old.cursor.unread.after) (stored.rows T.KeyedTable.name)))) }
-        ensures refused { HasCleanDisk (state_of S.Store self.new.tables.now) → HasKey T.StoredTable.layout self.old.cursor.unread.after → IfErr result (FailsToShow T.StoredTable.layout T.KeyedTable.name (part_text T.part_texts self.old.cursor.unread.after) (bind_part T.KeyedTable.bind self.old.cursor.unread.after) (state_of S.Store self.old.tables.now) (state_of S.Store self.new.tables.now)) }
+        ensures damaged { IsOfDamagedPart S.Store T.StoredTable.layout T.KeyedTable.name T.part_texts T.KeyedTable.bind self.old.cursor.unread.after self.old.tables.now self.new.tables.now result }
+        ensures refused { FailsToShowPart S.Store T.StoredTable.layout T.KeyedTable.name T.part_texts T.KeyedTable.bind self.old.cursor.unread.after self.old.tables.now self.new.tables.now result }
         ensures keyed { SaysAsStoredIn S.Store T.KeyedTable.name self.old.format self.old.tables.now self.new.tables.now (λ _. HasKey T.StoredTable.layout self.old.cursor.unread.after → IfOk result (λ _. HasKey T.StoredTable.layout self.new.cursor.unread.after)) }
         ensures ended { OnErr result (IsOver self.new.cursor) }
         ensures over { IsOver self.old.cursor → (result ≡ Ok None) × (self.new.tables.now ≡ self.old.tables.now) × IsOver self.new.cursor }

@@ -4,7 +4,6 @@ ghost use Rattle.std.specs.Prelude.{◌≡◌, ◌≢◌, ◌⊎◌, ◌+◌, �
 ghost use Rattle.std.specs.FinMap.{empty, insert, len, remove};
 ghost use Rattle.std.specs.List.{AllByRecursion};
 ghost use Rattle.sqlite.specs.State.{HasCleanDisk, Survives};
-ghost use Rattle.sqlite_rules.specs.Lists.{Has};
 ghost use Rattle.wh_rows.specs.declared.cause.Cause.TheVariants.{Disk, Memory, Size};
 ghost use Rattle.wh_rows.specs.Types.{is_number};
 ghost use Rattle.wh_rows.specs.Rows.{encode_meta};
@@ -20,8 +19,8 @@ ghost use Rattle.wh_rows.specs.Making.{upgrading_texts};
 ghost use Rattle.wh_sql.specs.Facts.{rekeying};
 ghost use Rattle.wh_sql.specs.Refused.{IsOneRefused, bare};
 ghost use Rattle.wh_store.specs.Reads.{state_of};
-ghost use Rattle.wh_store.specs.Writes.{WritesOnly, Makes, NotesRefusals, Undoes};
-ghost use Rattle.wh_store.specs.Edits.{with_edit, IsValid, Puts, IsOfTypes, statement_of};
+ghost use Rattle.wh_store.specs.Writes.{WritesOnly, Makes, NotesRefusals, SaysInWriting, TellsRefused, Undoes};
+ghost use Rattle.wh_store.specs.Edits.{with_edit, IsValid, Puts, IsOfTypes, AreOfTypes, statement_of};
 ghost use Rattle.wh_store.specs.Meta.{made_with, with_number, making};
 
 use crate::meta;
@@ -196,8 +195,8 @@ impl<'t, S: Alter> Writing<'t, S> {
         ensures same_reference { self.new.tables.ghost_name ≡ self.old.tables.ghost_name }
         ensures writes { WritesOnly (state_of S.Store self.old.tables.now) (state_of S.Store self.new.tables.now) (AllByRecursion (IsValid T.layout) rows.now) }
         ensures put { Makes (state_of S.Store self.old.tables.now) (state_of S.Store self.new.tables.now) result (AllByRecursion (IsValid T.layout) rows.now) (λ made. T.with_rows (after_all (with_row T.layout) rows.now (T.rows made)) made) }
-        ensures cause { HasCleanDisk (state_of S.Store self.new.tables.now) → (before : Option TypedTables) (made : TypedTables) → IsWriting before (Some made) (state_of S.Store self.old.tables.now) → AllByRecursion (IsValid T.layout) rows.now → self.old.writes + length rows.now ≤ u64.MAX
-            → IfErr result (λ cause. cause ≢ Memory → IsOneRefused S.Store IsCauseOf (map (λ row. (T.texts.put, T.layout.encode row)) rows.now) self.old.tables.now.conn self.new.tables.now.conn cause) }
+        ensures cause { SaysInWriting S.Store self.old.tables.now self.new.tables.now (AllByRecursion (IsValid T.layout) rows.now → self.old.writes + length rows.now ≤ u64.MAX
+            → TellsRefused S.Store (map (λ row. (T.texts.put, T.layout.encode row)) rows.now) self.old.tables.now self.new.tables.now result) }
         ensures counted { OnOk result (self.new.writes ≡ self.old.writes + length rows.now) }
         ensures noted { NotesRefusals self.old.refused self.new.refused result }
     {
@@ -236,8 +235,8 @@ impl<'t, S: Alter> Writing<'t, S> {
         ensures same_reference { self.new.tables.ghost_name ≡ self.old.tables.ghost_name }
         ensures writes { WritesOnly (state_of S.Store self.old.tables.now) (state_of S.Store self.new.tables.now) (AllByRecursion (Puts (IsValid T.layout)) edits.now) }
         ensures edited { Makes (state_of S.Store self.old.tables.now) (state_of S.Store self.new.tables.now) result (AllByRecursion (Puts (IsValid T.layout)) edits.now) (λ made. T.with_rows (after_all (with_edit T.layout) edits.now (T.rows made)) made) }
-        ensures cause { HasCleanDisk (state_of S.Store self.new.tables.now) → (before : Option TypedTables) (made : TypedTables) → IsWriting before (Some made) (state_of S.Store self.old.tables.now) → AllByRecursion (Puts (IsValid T.layout)) edits.now → ((edit : _) → Has edits.now edit → IsOfTypes T.layout edit) → self.old.writes + length edits.now ≤ u64.MAX
-            → IfErr result (λ cause. cause ≢ Memory → IsOneRefused S.Store IsCauseOf (map (statement_of T.layout T.texts T.bind) edits.now) self.old.tables.now.conn self.new.tables.now.conn cause) }
+        ensures cause { SaysInWriting S.Store self.old.tables.now self.new.tables.now (AllByRecursion (Puts (IsValid T.layout)) edits.now → AreOfTypes T.layout edits.now → self.old.writes + length edits.now ≤ u64.MAX
+            → TellsRefused S.Store (map (statement_of T.layout T.texts T.bind) edits.now) self.old.tables.now self.new.tables.now result) }
         ensures counted { OnOk result (self.new.writes ≡ self.old.writes + length edits.now) }
         ensures noted { NotesRefusals self.old.refused self.new.refused result }
     {
@@ -255,7 +254,7 @@ impl<'t, S: Alter> Writing<'t, S> {
         ensures made { HasCleanDisk (state_of S.Store self.new.tables.now) → IsWriting None None (state_of S.Store self.old.tables.now) → OnOk result (IsWriting None (Some (made_with limits)) (state_of S.Store self.new.tables.now)) }
         ensures left { HasCleanDisk (state_of S.Store self.new.tables.now) → IsWriting None None (state_of S.Store self.old.tables.now) → Leaves None (state_of S.Store self.new.tables.now) }
         ensures cause { HasCleanDisk (state_of S.Store self.new.tables.now) → IsWriting None None (state_of S.Store self.old.tables.now) → self.old.writes + 4 ≤ u64.MAX
-            → IfErr result (λ cause. cause ≢ Memory → IsOneRefused S.Store IsCauseOf (making limits) self.old.tables.now.conn self.new.tables.now.conn cause) }
+            → TellsRefused S.Store (making limits) self.old.tables.now self.new.tables.now result }
         ensures counted { OnOk result (self.new.writes ≡ self.old.writes + 4) }
         ensures noted { NotesRefusals self.old.refused self.new.refused result }
     {

@@ -1,5 +1,5 @@
 -- The rows that a batch of sales brings.
-use Rattle.std.proofs.Common.{◌≡◌, ℕ, zero, suc, ◌≤◌, ◌==◌, List, [], ◌∷◌, ◌++◌, length, Option, Some, ◌∙◌, ap}
+use Rattle.std.proofs.Common.{◌≡◌, ℕ, zero, suc, ◌≤◌, ◌==◌, List, [], ◌∷◌, ◌++◌, length, Some, ◌∙◌, ap}
 use Rattle.std.specs.Prelude.{find}
 use Rattle.std.specs.Option.{option_and_then}
 use Rattle.std.proofs.lemmas.Cmp.{nat_cmp_total}
@@ -9,7 +9,7 @@ use Rattle.wh_policy.specs.declared.attribute.Dim.TheVariants.{Product, Store, C
 use Rattle.wh_policy.specs.declared.record.SaleRecord.{SaleRecord}
 use Rattle.wh_history.specs.Accepted.{Accepted, Anchor, Sells, same_anchor, mentions, anchors}
 use Rattle.wh_history.specs.Keys.{at_place}
-use Rattle.wh_history.specs.Tables.{member_rows, numbered_row, dimension_row, no_card_row}
+use Rattle.wh_history.specs.Tables.{numbered_row, dimension_row, no_card_row}
 use Rattle.wh_history.specs.declared.rows.DimRow.{DimRow}
 use Rattle.wh_history.proofs.Growth.{anchors-append}
 use Rattle.wh_history.proofs.Owners.{all_distinct}
@@ -20,6 +20,7 @@ use Rattle.wh_plan.proofs.FoundRows.{row_key, row_past}
 use Rattle.wh_model.proofs.GrownKeys.{at_front, all_at, then_same, grows_behind}
 use Rattle.wh_model.proofs.GrownMembers.{Opened, opened_in_all}
 use Rattle.wh_model.proofs.Listed.{number_rises}
+use Rattle.wh_model.proofs.GrownUntouched.{row_in}
 use Rattle.wh_plan.proofs.Plans.{grown_plan}
 use Rattle.wh_plan.proofs.SaleBatches.Selling.{batch, rows_kept}
 
@@ -29,17 +30,14 @@ module _ (commands : List Accepted) (c : Accepted) (dim : Dim) (sales : List Sal
   abbrev after : List Accepted
   after = commands ++ c ∷ []
 
-  abbrev row_in : List Accepted → ℕ → Anchor → Option DimRow
-  row_in list key a = find (λ (r : DimRow). r.surrogate == key) (member_rows list dim a.natural)
-
   opened : (key : ℕ) (a : Anchor) → at_place key (anchors dim commands) ≡ Some a → Opened (mentions dim commands) a
   opened key a there = all_at (Opened (mentions dim commands)) key (anchors dim commands) a (all_distinct (Opened (mentions dim commands)) same_anchor (mentions dim commands) (opened_in_all dim commands)) there
 
   numbered_stays : (key : ℕ) → key ≤ length (anchors dim commands) → numbered_row after dim key ≡ numbered_row commands dim key
   numbered_stays key front =
-      ap (λ as'. option_and_then (row_in after key) (at_place key as')) (anchors-append dim commands (c ∷ []))
-      ∙ ap (option_and_then (row_in after key)) (at_front key (anchors dim commands) _ front)
-      ∙ then_same (row_in after key) (row_in commands key) (at_place key (anchors dim commands))
+      ap (λ as'. option_and_then (row_in dim after key) (at_place key as')) (anchors-append dim commands (c ∷ []))
+      ∙ ap (option_and_then (row_in dim after key)) (at_front key (anchors dim commands) _ front)
+      ∙ then_same (row_in dim after key) (row_in dim commands key) (at_place key (anchors dim commands))
       (λ a there. ap (find (λ (r : DimRow). r.surrogate == key)) (rows_kept commands c sales is dim a.natural (opened key a there)))
 
 row_stays : (dim : Dim) (commands : List Accepted) (c : Accepted) (sales : List SaleRecord) → c.content ≡ Sells sales → (key : ℕ) → key ≤ length (anchors dim commands) → dimension_row (commands ++ c ∷ []) dim key ≡ dimension_row commands dim key

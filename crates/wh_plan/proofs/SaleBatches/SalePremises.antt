@@ -9,17 +9,18 @@ use Rattle.wh_history.specs.declared.plan.Edit.TheVariants.{Put}
 use Rattle.wh_history.specs.Accepted.{Accepted, Sells, anchors, members, placeholders_by, sold}
 use Rattle.wh_history.specs.Tables.{Limits}
 use Rattle.wh_history.proofs.Basics.{or_none}
+use Rattle.wh_history.proofs.Lists.{all_back}
 use Rattle.wh_rows.specs.declared.key.LineKey.{LineKey}
 use Rattle.wh_plan.specs.BatchRows.{IsNewLine, new_members}
 use Rattle.wh_model.specs.Defined.{fact_at, member_at, void_at}
 use Rattle.wh_plan.specs.Edits.{Edits, AreEdits}
 use Rattle.wh_model.specs.Sound.{same_line, IsAccepted}
 use Rattle.wh_plan.proofs.BatchPlans.{members_are}
-use Rattle.wh_plan.proofs.MovedLists.{is_absent}
 use Rattle.wh_plan.proofs.SaleBatches.SalesEdits.{members_joined, all_counted}
 use Rattle.wh_model.proofs.SameLines.{line_known}
 use Rattle.wh_plan.proofs.SaleBatches.Selling.{sold_more}
 use Rattle.wh_model.proofs.SmallNumbers.{anchors_few, members_few}
+use Rattle.wh_model.proofs.CountedLines.{is_absent}
 
 -- ---- the second part of a list whose elements are distinct
 
@@ -27,10 +28,6 @@ distinct_after : {X : Type 0} (same : X → X → Bool) (xs ys : List X) → IsD
 unfolding IsDistinct
 distinct_after same [] ys once = once
 distinct_after same (x ∷ xs) ys once = distinct_after same xs ys once.1
-
-all_after : {X : Type 0} (P : X → Type 0) (xs ys : List X) → AllByRecursion P (xs ++ ys) → AllByRecursion P ys
-all_after P [] ys all = all
-all_after P (x ∷ xs) ys all = all_after P xs ys all.1
 
 none_of_more : {X : Type 0} (same : X → X → Bool) (x : X) (xs ys : List X) → AllByRecursion (λ y. same x y ≡ false) ys → AllByRecursion (λ y. list_any (λ t. same t y) xs ≡ false) ys
     → AllByRecursion (λ y. list_any (λ t. same t y) (x ∷ xs) ≡ false) ys
@@ -44,7 +41,7 @@ none_of_none same (y ∷ ys) = (refl, none_of_none same ys)
 none_before : {X : Type 0} (same : X → X → Bool) (xs ys : List X) → IsDistinct same (xs ++ ys) → AllByRecursion (λ y. list_any (λ t. same t y) xs ≡ false) ys
 unfolding IsDistinct
 none_before same [] ys once = none_of_none same ys
-none_before same (x ∷ xs) ys once = none_of_more same x xs ys (all_after (λ y. same x y ≡ false) xs ys once.0) (none_before same xs ys once.1)
+none_before same (x ∷ xs) ys once = none_of_more same x xs ys (all_back (λ y. same x y ≡ false) xs ys once.0) (none_before same xs ys once.1)
 
 -- ---- a line that was not sold is new
 

@@ -26,12 +26,9 @@ use Rattle.wh_plan.proofs.Plans.{made_mapped}
 use Rattle.wh_plan.proofs.SaleBatches.Placeholders.{sales_put_placeholders}
 use Rattle.wh_plan.proofs.SaleBatches.SalesRows.{members_counted}
 use Rattle.wh_plan.proofs.SaleBatches.Selling.{profiles_kept}
+use Rattle.wh_history.proofs.Lists.{take_front}
 
 -- ---- lists
-
-take_front : {X : Type 0} (xs ys : List X) → take (length xs) (xs ++ ys) ≡ xs
-take_front [] ys = refl
-take_front (x ∷ xs) ys = ap (λ zs. x ∷ zs) (take_front xs ys)
 
 take_last : {X : Type 0} (xs : List X) (x : X) → take (suc (length xs)) (xs ++ x ∷ []) ≡ xs ++ x ∷ []
 take_last [] x = refl

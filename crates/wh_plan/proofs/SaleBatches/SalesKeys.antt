@@ -9,14 +9,14 @@ use Rattle.wh_policy.specs.declared.attribute.AttributeType.{AttributeType}
 use Rattle.wh_policy.specs.declared.attribute.Dim.{Dim}
 use Rattle.wh_policy.specs.declared.attribute.Dim.TheVariants.{Product, Store, Customer}
 use Rattle.wh_policy.specs.declared.record.SaleRecord.{SaleRecord}
-use Rattle.wh_history.specs.Accepted.{Accepted, durable_key, member_of, member_of_sale, types_in, profiles_of}
+use Rattle.wh_history.specs.Accepted.{Accepted, member_of, member_of_sale, types_in, profiles_of}
 use Rattle.wh_history.specs.Dated.{at, dated}
 use Rattle.wh_history.specs.Facts.{key_in, keys_on, of_customer}
 use Rattle.wh_history.specs.Known.{KnowsEnough}
 use Rattle.wh_history.specs.Profiles.{current_by, profile_number}
 use Rattle.wh_history.specs.Rows.{rows}
 use Rattle.wh_history.specs.Shapes.{Shape, RenderedMember, shape_after, rendered_in, shown}
-use Rattle.wh_history.specs.Tables.{key_at, profile_at, fact_of}
+use Rattle.wh_history.specs.Tables.{fact_of}
 use Rattle.wh_history.specs.declared.dimension.Rendered.{Rendered}
 use Rattle.wh_history.specs.declared.facts.Fact.{Fact}
 use Rattle.wh_history.specs.declared.facts.MemberKeys.{MemberKeys}
@@ -29,6 +29,7 @@ use Rattle.wh_history.proofs.Once.{among_distinct}
 use Rattle.wh_plan.specs.SoldMembers.{rendered_named, no_keys, keys_among, keys_sold, fact_with, naturals_sold}
 use Rattle.wh_plan.proofs.PlanNaturals.{next_taken}
 use Rattle.wh_plan.proofs.PlanningMembers.{Among}
+use Rattle.wh_model.proofs.QuietRows.{sold_to}
 
 -- ---- members by their natural keys
 
@@ -174,31 +175,10 @@ get_mapped f (z ∷ xs) (suc i) x y within is = get_mapped f xs i x y (omega ari
 
 -- ---- the fact
 
--- a sale's fact, whoever its card is
-abbrev fact_by : List Accepted → SaleRecord → Option (List ℕ) → Fact
-fact_by commands s customer = record {
-  ticket = s.ticket;
-  line = s.line;
-  day = s.day;
-  keys = record {
-    store_key = key_at commands Store s.day s.store;
-    product_key = key_at commands Product s.day s.product;
-    customer_key = unwrap_or (option_map (key_at commands Customer s.day) customer) 0;
-    profile = unwrap_or (option_map (profile_at commands s.day) customer) 0;
-  };
-  store_durable = durable_key Store commands s.store;
-  product_durable = durable_key Product commands s.product;
-  customer_durable = unwrap_or (option_map (durable_key Customer commands) customer) 0;
-  quantity = s.quantity;
-  amount = s.amount;
-  cost = s.cost;
-  discount = s.discount;
-}
-
 pub fact_keyed : (commands : List Accepted) (s : SaleRecord) → fact_with s (keys_sold Product commands s) (keys_sold Store commands s) (keys_sold Customer commands s) ≡ fact_of commands s
 fact_keyed commands s =
     let of = λ (natural : List ℕ). keys_on (shape_after Customer commands) (rendered_in (shape_after Customer commands) (member_of Customer commands natural)) s.day in
-    elim s.customer as (λ o. fact_with s (keys_sold Product commands s) (keys_sold Store commands s) (unwrap_or (option_map of o) no_keys) ≡ fact_by commands s o) [
+    elim s.customer as (λ o. fact_with s (keys_sold Product commands s) (keys_sold Store commands s) (unwrap_or (option_map of o) no_keys) ≡ sold_to commands s o) [
       | None ↦ refl
       | Some n ↦ refl
     ]

@@ -26,7 +26,7 @@ use Rattle.wh_model.proofs.GrownMembers.{Opened, opened_in_all}
 use Rattle.wh_plan.proofs.PlanningLists.{fresh_is}
 use Rattle.wh_plan.proofs.PlanningPlaces.{place_here}
 use Rattle.wh_plan.proofs.SaleBatches.Selling.{changes_kept}
-use Rattle.wh_plan.proofs.FoundAnchors.{and_true}
+use Rattle.wh_rows.proofs.Keys.{and-true}
 
 -- ---- lists
 
@@ -54,7 +54,7 @@ distinct_opened (n ∷ ns) =
     ap (λ ys. opening_of n ∷ ys)
     (ap (filter other) (distinct_opened ns)
     ∙ filter_mapped other opening_of (distinct bytes_eq ns)
-    ∙ ap (map opening_of) (filter_alike (λ m. other (opening_of m)) (λ m. not (bytes_eq n m)) (λ m. ap not (and_true (bytes_eq n m))) (distinct bytes_eq ns)))
+    ∙ ap (map opening_of) (filter_alike (λ m. other (opening_of m)) (λ m. not (bytes_eq n m)) (λ m. ap not (and-true (bytes_eq n m))) (distinct bytes_eq ns)))
 
 -- the openings that sales mention
 sales_opened : (dim : Dim) (sales : List SaleRecord) → flat_map (anchors_of_sale dim) sales ≡ map opening_of (filter_map (member_of_sale dim) sales)

@@ -1,5 +1,5 @@
 -- What a batch of sales leaves as it was, and the facts that it brings.
-use Rattle.std.proofs.Common.{◌≡◌, ℕ, ◌<◌, ◌==◌, Bool, true, false, cond, ◌&&◌, List, [], ◌∷◌, ◌++◌, map, Some, None, refl, sym, ◌∙◌, ap, subst, append-nil}
+use Rattle.std.proofs.Common.{◌≡◌, ℕ, ◌<◌, ◌==◌, true, false, cond, List, [], ◌∷◌, ◌++◌, map, Some, None, refl, sym, ◌∙◌, ap, subst, append-nil}
 use Rattle.std.specs.Prelude.{◌≢◌, bytes_eq, find, filter, is_some, option_map}
 use Rattle.std.specs.List.{AllByRecursion, list_any}
 use Rattle.std.specs.Option.{option_or}
@@ -7,6 +7,7 @@ use Rattle.std.proofs.lemmas.Bool.{and_parts, eqb-true}
 use Rattle.std.proofs.lemmas.Grind.{flat_map-append}
 use Rattle.std.proofs.lemmas.List.Folds.{find-append}
 use Rattle.std.proofs.lemmas.Slice.Eq.{bytes_eq-Decides}
+use Rattle.std.proofs.lemmas.Map.Made.{option_or-none}
 use Rattle.wh_policy.specs.declared.attribute.Dim.{Dim}
 use Rattle.wh_policy.specs.declared.attribute.Dim.TheVariants.{Product, Store, Customer}
 use Rattle.wh_policy.specs.declared.record.DimensionRecord.{DimensionRecord}
@@ -31,9 +32,10 @@ use Rattle.wh_plan.specs.Laws.{SalesAreFacts}
 use Rattle.wh_plan.specs.BatchRows.{IsNewLine, has_line}
 use Rattle.wh_model.proofs.Following.{Named, all_named, durable_kept, customer_kept}
 use Rattle.wh_model.proofs.GrownChanges.{natural_among}
-use Rattle.wh_plan.proofs.GrownFacts.{found_mapped, facts_once, or_none}
+use Rattle.wh_plan.proofs.GrownFacts.{found_mapped, facts_once}
 use Rattle.wh_model.proofs.GrownKeys.{found_is, map_same}
 use Rattle.wh_model.proofs.SameLines.{void_stored}
+use Rattle.wh_model.proofs.WholeFacts.{on_line}
 
 module _ (commands : List Accepted) (c : Accepted) (sales : List SaleRecord) (is : c.content ≡ Sells sales) where
   abbrev after : List Accepted
@@ -118,9 +120,6 @@ module _ (commands : List Accepted) (c : Accepted) (sales : List SaleRecord) (is
   abbrev line_of : SaleRecord → LineKey
   line_of s = record { ticket = s.ticket; line = s.line }
 
-  abbrev on_line : LineKey → SaleRecord → Bool
-  on_line key s = bytes_eq s.ticket key.ticket && (s.line == key.line)
-
   line_is : (key : LineKey) (s : SaleRecord) → on_line key s ≡ true → line_of s ≡ key
   line_is key s h =
       let parts = and_parts (bytes_eq s.ticket key.ticket) (s.line == key.line) h in
@@ -154,7 +153,7 @@ module _ (commands : List Accepted) (c : Accepted) (sales : List SaleRecord) (is
       ap (λ ss. option_map (fact_of after) (find (on_line key) ss)) (standing_more new) ∙ ap (option_map (fact_of after)) (find-append (on_line key) (standing commands) sales) in
       ap (λ o. option_or o (fact_at commands key)) (found_mapped after key sales)
       ∙ elim (find (on_line key) (standing commands)) as (λ o. (find (on_line key) (standing commands) ≡ o) → option_or (option_map (fact_of after) (find (on_line key) sales)) (option_map (fact_of commands) o) ≡ option_map (fact_of after) (option_or o (find (on_line key) sales))) [
-        | None ↦ λ none. or_none (option_map (fact_of after) (find (on_line key) sales))
+        | None ↦ λ none. option_or-none (option_map (fact_of after) (find (on_line key) sales))
         | Some old ↦ λ some.
             let named = all_standing (Named commands) (withdrawn commands) (sold commands) (all_named commands) in
             let kept = fact_kept old (found_is (Named commands) (on_line key) (standing commands) old named some) in

@@ -1,16 +1,13 @@
-use Rattle.std.proofs.Common.{◌≡◌, Bool, true, false, not, refl, ap, subst, ◌∙◌}
+use Rattle.std.proofs.Common.{not, ap, subst, ◌∙◌}
 use Rattle.wh_store.specs.Scan.{rows_left}
 use Rattle.wh_check.specs.Compared.{IsEnd}
 use Rattle.wh_check.proofs.Comparing.{handed_end}
 use Rattle.wh_check.proofs.compare.is_end.Goals as goal
-
-not_twice : (b : Bool) → not (not b) ≡ b
-not_twice true = refl
-not_twice false = refl
+use Rattle.wh_admission.proofs.StaysAccepted.{turned_twice}
 
 pub returns-clause-end : goal.returns-clause-end
 returns-clause-end g c t same at =
     let layout = g.T.StoredTable.layout in
     let rows = g.T.StoredTable.rows t in
     let left = rows_left layout rows c.args.ahead.now in
-    subst (IsEnd left) (ap not c.is_none.ensures ∙ not_twice c.is_none.result) (handed_end left (rows_left layout rows c.next_expected.new.ahead) c.in_ok-found.found (c.in_ok-found.ensures.row t same at))
+    subst (IsEnd left) (ap not c.is_none.ensures ∙ turned_twice c.is_none.result) (handed_end left (rows_left layout rows c.next_expected.new.ahead) c.in_ok-found.found (c.in_ok-found.ensures.row t same at))

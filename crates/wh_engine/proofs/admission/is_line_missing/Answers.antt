@@ -1,14 +1,11 @@
-use Rattle.std.proofs.Common.{◌≡◌, ◌∙◌, Bool, true, false, sym, ap, not, refl}
+use Rattle.std.proofs.Common.{◌∙◌, sym, ap, not}
 use Rattle.std.specs.Prelude.{is_some}
 use Rattle.wh_policy.specs.declared.format.Format.TheVariants.{Two}
 use Rattle.wh_model.specs.Defined.{fact_at}
 use Rattle.wh_model.proofs.Formatted.{facts_in_are}
 use Rattle.wh_model.proofs.SameLines.{fact_stored}
 use Rattle.wh_engine.proofs.admission.is_line_missing.Goals as goal
-
-turned_twice : (b : Bool) → not (not b) ≡ b
-turned_twice true = refl
-turned_twice false = refl
+use Rattle.wh_admission.proofs.StaysAccepted.{turned_twice}
 
 pub returns-clause-missing : goal.returns-clause-missing
 returns-clause-missing g c clean limits commands t are rests second =

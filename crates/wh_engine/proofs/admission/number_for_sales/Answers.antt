@@ -6,8 +6,9 @@ use Rattle.wh_model.specs.Sound.{changes_kept}
 use Rattle.wh_engine.specs.Decided.{lines_in}
 use Rattle.wh_engine.proofs.FoundLines.{lines_kept}
 use Rattle.wh_plan.proofs.FoundCommands.{commands_counted}
-use Rattle.wh_engine.proofs.Decisions.{no_room, line_is_there, too_many_facts, has_room, is_none}
+use Rattle.wh_engine.proofs.Decisions.{no_room, line_is_there, too_many_facts, has_room}
 use Rattle.wh_engine.proofs.admission.number_for_sales.Goals as goal
+use Rattle.wh_store.proofs.Scanning.{none_is}
 
 pub returns-then-commands-clause-number : goal.returns-then-commands-clause-number
 returns-then-commands-clause-number g c clean t rests commands are accepted same =
@@ -30,7 +31,7 @@ returns-then-not-branch-clause-number g c clean t rests commands are accepted sa
     let passed = c.in_ok-number.ensures.reads.same asked t still tt in
     let number = c.in_ok-commands.ensures.count before t rests ∙ commands_counted c.args.limits commands t are in
     let room : length commands < c.args.limits.commands = omega (arith, number, c.commands.ensures, c.if-commands.false) in
-    let none = is_none _ (λ n. c.in_default.not-Some n) in
+    let none = none_is _ (λ n. c.in_default.not-Some n) in
     let new : first_line_there (sold commands) 1 c.args.sales.now ≡ None = sym (c.in_ok-number.ensures.there asked c.args.limits commands t are still same accepted) ∙ none in
     let counted = lines_kept c.args.limits commands t are accepted c.args.format same in
     let few : lines_in c.args.format t ≤ c.in_ok-commands.commands * 5000 = omega (arith, counted, number, accepted.few_sales_a_batch) in
@@ -50,7 +51,7 @@ returns-clause-number g c clean t rests commands are accepted same =
     let there = c.in_ok-has_room_for_lines.ensures.reads.same looked t passed tt in
     let number = c.in_ok-commands.ensures.count before t rests ∙ commands_counted c.args.limits commands t are in
     let room : length commands < c.args.limits.commands = omega (arith, number, c.commands.ensures, c.if-commands.false) in
-    let none = is_none _ (λ n. c.in_default.not-Some n) in
+    let none = none_is _ (λ n. c.in_default.not-Some n) in
     let new : first_line_there (sold commands) 1 c.args.sales.now ≡ None = sym (c.in_ok-number.ensures.there asked c.args.limits commands t are still same accepted) ∙ none in
     let counted = lines_kept c.args.limits commands t are accepted c.args.format same in
     let few : lines_in c.args.format t ≤ c.in_ok-commands.commands * 5000 = omega (arith, counted, number, accepted.few_sales_a_batch) in

@@ -3,8 +3,9 @@ use Rattle.wh_history.specs.Accepted.{Withdraws, sold, standing}
 use Rattle.wh_admission.specs.Admission.{first_line_missing}
 use Rattle.wh_model.specs.Sound.{changes_kept}
 use Rattle.wh_plan.proofs.FoundCommands.{commands_counted}
-use Rattle.wh_engine.proofs.Decisions.{no_room, line_is_missing, has_room, is_none}
+use Rattle.wh_engine.proofs.Decisions.{no_room, line_is_missing, has_room}
 use Rattle.wh_engine.proofs.admission.number_for_voids.Goals as goal
+use Rattle.wh_store.proofs.Scanning.{none_is}
 
 pub returns-then-commands-clause-number : goal.returns-then-commands-clause-number
 returns-then-commands-clause-number g c clean t rests commands are accepted second =
@@ -27,7 +28,7 @@ returns-clause-number g c clean t rests commands are accepted second =
     let passed = c.in_ok-number.ensures.reads.same looked t still tt in
     let number = c.in_ok-commands.ensures.count before t rests ∙ commands_counted c.args.limits commands t are in
     let room : length commands < c.args.limits.commands = omega (arith, number, c.commands.ensures, c.if-commands.false) in
-    let none = is_none _ (λ n. c.in_default.not-Some n) in
+    let none = none_is _ (λ n. c.in_default.not-Some n) in
     let stand : first_line_missing (standing commands) 1 c.args.voids.now ≡ None = sym (c.in_ok-number.ensures.missing looked c.args.limits commands t are still second) ∙ none in
     let changes : changes_kept commands + 0 ≤ c.args.limits.changes = omega (arith, accepted.changes_within) in
     let facts : length (sold commands) + 0 ≤ c.args.limits.facts = omega (arith, accepted.facts_within) in

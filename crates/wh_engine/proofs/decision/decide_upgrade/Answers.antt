@@ -10,7 +10,7 @@ use Rattle.wh_admission.specs.Admission.{accepted_as, answer, number_for}
 use Rattle.wh_admission.specs.declared.command.Refused.TheVariants.{Upgraded}
 use Rattle.wh_engine.specs.Decided.{Decides}
 use Rattle.wh_engine.proofs.Decisions.{no_records, upgrade_refused, upgrade_again, upgrade_numbered, judged_ok, judged_err, number_refused, upgrade_content, command_accepted, own_row}
-use Rattle.wh_engine.proofs.Scanning.{still_served, still_blames, still_works, still_tells}
+use Rattle.wh_engine.proofs.Scanning.{failed_after}
 use Rattle.wh_engine.proofs.decision.decide_upgrade.Goals as goal
 
 first_of : (format : Format) → format ≢ Two → format ≡ One
@@ -67,19 +67,4 @@ returns-clause-decided g c clean commands t held rests kind good new =
 
 pub returns-in_err-edits-clause-reads : goal.returns-in_err-edits-clause-reads
 returns-in_err-edits-clause-reads g c =
-    let first = c.in-Ok.ensures.reads.spares in
-    let last = c.in_err-edits.ensures.reads in
-    let why = c.in_err-edits.field-0.0 in
-    let came = c.from_residual-in_err-edits in
-    record {
-      spares = record {
-        clean = λ clean. first.clean (last.clean clean);
-        same = λ clean t rests served. last.same clean t (first.same (last.clean clean) t rests tt) (still_served came.result why came.ensures served);
-        left = λ clean t rests. last.left clean t (first.same (last.clean clean) t rests tt);
-        rests = λ clean stored rests served. last.rests clean stored (first.rests (last.clean clean) stored rests tt) (still_served came.result why came.ensures served);
-        leaves = λ clean stored rests. last.leaves clean stored (first.rests (last.clean clean) stored rests tt);
-      };
-      blames = λ clean stored rests. still_blames stored came.result why came.ensures (last.named clean stored (first.rests (last.clean clean) stored rests tt));
-      work = still_works came.result why came.ensures;
-      taken = still_tells _ came.result why came.ensures;
-    }
+    failed_after g.S.Store _ _ _ c.in_err-edits.field-0.0 c.from_residual-in_err-edits.result c.in-Ok.ensures.reads.spares c.in_err-edits.ensures.reads c.from_residual-in_err-edits.ensures

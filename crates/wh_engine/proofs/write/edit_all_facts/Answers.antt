@@ -6,9 +6,9 @@ use Rattle.wh_rows.specs.AtRest.{IsWriting}
 use Rattle.wh_rows.specs.Tables.{Tables as TenTables}
 use Rattle.wh_plan.specs.Writable.{IsValidFactEdit}
 use Rattle.wh_engine.specs.Writing.{AreValidFactEdits, with_fact_edits}
-use Rattle.wh_store.proofs.Looping.{all_parts}
 use Rattle.wh_engine.proofs.PutFacts.{put_none, parts_put}
 use Rattle.wh_engine.proofs.write.edit_all_facts.Goals as goal
+use Rattle.wh_history.proofs.Lists.{all_apart}
 
 pub loop-part-init : goal.loop-part-init
 loop-part-init g c =
@@ -38,7 +38,7 @@ returns-in_err-edit_facts_at_once-clause-writes g c =
       counts = omega (arith, kept.counts, c.edit_facts_at_once.ensures.writes.counts);
       left = λ clean before made at may.
           let was = kept.put (c.edit_facts_at_once.ensures.writes.clean clean) before made at may in
-          let parts = all_parts (IsValidFactEdit c.args.format) c.in-Some.part.now (chunks_rest c.next.new.self) (subst (AreValidFactEdits c.args.format) steps.1.0 was.2) in
+          let parts = all_apart (IsValidFactEdit c.args.format) c.in-Some.part.now (chunks_rest c.next.new.self) (subst (AreValidFactEdits c.args.format) steps.1.0 was.2) in
           c.edit_facts_at_once.ensures.writes.left clean before was.0 was.1 parts.0;
     }
 
@@ -60,7 +60,7 @@ loop-part-preserved g c =
       put = λ clean before made at may.
           let was = kept.put (c.edit_facts_at_once.ensures.writes.clean clean) before made at may in
           let mid = was.0 in
-          let parts = all_parts (IsValidFactEdit format) part rest (subst (AreValidFactEdits format) steps.1.0 was.2) in
+          let parts = all_apart (IsValidFactEdit format) part rest (subst (AreValidFactEdits format) steps.1.0 was.2) in
           let now : TenTables = with_fact_edits format part mid in
           let leads : with_fact_edits format (chunks_rest c.loop-part.part-iterator) mid ≡ with_fact_edits format rest now =
           ap (λ es. with_fact_edits format es mid) steps.1.0 ∙ parts_put format part rest mid in

@@ -1,8 +1,8 @@
 use Rattle.std.proofs.Common.{◌≡◌, sym, ◌∙◌, Some}
 use Rattle.wh_model.specs.Defined.{member_at}
 use Rattle.wh_migration.proofs.AllMembers.{member_there, number_given, number_is}
-use Rattle.wh_plan.proofs.FoundMembers.{key_of}
 use Rattle.wh_migration.proofs.all_members.numbered_member.Goals as goal
+use Rattle.wh_model.proofs.GrownMembers.{key_of}
 
 pub returns-in_ok-stored_changes-in-Some-clause-member : goal.returns-in_ok-stored_changes-in-Some-clause-member
 returns-in_ok-stored_changes-in-Some-clause-member g c clean limits commands t are at full =

@@ -9,9 +9,7 @@ use Rattle.wh_program.specs.Task.{faults_in}
 use Rattle.wh_program.proofs.CommandLineLemmas.{taken, found}
 use Rattle.wh_program.proofs.WordLemmas.{read_found, read_nothing, read_declined}
 use Rattle.wh_program.proofs.words.command.parse.Goals as goal
-
-same : {X : Type 0} (x y : X) → Some x ≡ Some y → x ≡ y
-same x y e = cc
+use Rattle.wh_history.proofs.Basics.{some_is}
 
 other : {X : Type 0} (x : X) → None ≡ Some x → ⊥
 other x e = cc
@@ -24,7 +22,7 @@ nothing_asked (Err e) Is Holds none = tt
 pub returns-in-Some-clause-said : goal.returns-in-Some-clause-said
 returns-in-Some-clause-said g c = IfOk-weaker c.requested.result _ _ (λ request asks line words-are operands-are.
     let met = c.in-Some.ensures ∙ ap named (c.in-Ok.ensures.ok ∙ ap (subcommand_of program_app) words-are) ∙ found line operands-are in
-    subst (λ l. Asks l request) (same _ _ met) asks) c.requested.ensures
+    subst (λ l. Asks l request) (some_is _ _ met) asks) c.requested.ensures
 
 pub returns-in-Some-clause-read : goal.returns-in-Some-clause-read
 returns-in-Some-clause-read g c = IfOk-weaker c.requested.result _ _ (λ request asks.
