@@ -17,7 +17,7 @@ FOLDERS = "bench|crates|docs|examples|mirror|tests"
 LINK = re.compile(r"\[[^\]\n]*\]\(([^)\s]+)\)")
 PATH = re.compile(rf"(?<![\w/.-])((?:{FOLDERS})/[\w./*-]*[\w*/])(#[\w-]+)?")
 NAMED = re.compile(r"`(?:[\w-]+/)*([\w-]+\.(?:antt|md|py|rt|sh))`")
-PAGE = re.compile(r"\bdocs/\w+\.md(#[\w-]+)?")
+PAGE = re.compile(r"\b(?:docs/\w+|(?:bench|mirror)/README)\.md(#[\w-]+)?")
 PLACEHOLDER = re.compile(r"(?:^|/)(?:NAME|CRATE|FOLDER)(?:[./]|$)")
 FILES = subprocess.run(["git", "ls-files"], cwd=ROOT, capture_output=True, text=True, check=True).stdout.split("\n")[:-1]
 NAMES = {Path(it).name for it in FILES}

@@ -1,6 +1,6 @@
 #!/usr/bin/env bash
 # The mirror in PostgreSQL: the tests of mirror/tests, on three servers that this script starts in a folder of its own, and then the page
-# docs/mirror.md; tests/lib/page.sh says how. Where PostgreSQL isn't there and can't be installed, nothing is tried, and the script says so.
+# mirror/README.md; tests/lib/page.sh says how. Where PostgreSQL isn't there and can't be installed, nothing is tried, and the script says so.
 # mirror.sh [TEST..]: all tests and the page, or the named ones, as test_nights. WH names another program than crates/wh/out/wh.
 set -eu
 cd "$(dirname "$0")/.."
@@ -35,7 +35,7 @@ count() {
 
 page() (
     . tests/lib/page.sh
-    run_page docs/mirror.md
+    run_page mirror/README.md
 )
 
 if [ $# -gt 0 ]; then

@@ -18,7 +18,7 @@ def totals_of(shop: Shop) -> tuple[int, int, str]:
 class Reader(threading.Thread):
     """Asks again and again, and keeps each answer; every other time in two statements of one snapshot.
 
-    With shards such a transaction begins with a lock, as docs/mirror.md says.
+    With shards such a transaction begins with a lock, as mirror/README.md says.
     """
 
     def __init__(self, dsn: str, has_shards: bool = False) -> None:
