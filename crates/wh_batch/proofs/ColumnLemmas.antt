@@ -6,7 +6,7 @@ use Rattle.std.specs.List.{find, zip}
 use Rattle.std.proofs.lemmas.Bool.{eqb-true, eqb-false}
 use Rattle.std.proofs.lemmas.Bool.Decides.{Decides-eqb}
 use Rattle.std.proofs.lemmas.List.{length-map}
-use Rattle.std.proofs.lemmas.Map.Made.{option_or-none}
+use Rattle.wh_policy.proofs.Options.{option_or-none}
 use Rattle.csv.specs.Records.{field_at}
 use Rattle.wh_day.specs.Reading.{◌>>=◌}
 use Rattle.wh_policy.specs.declared.attribute.Attribute.{Attribute}

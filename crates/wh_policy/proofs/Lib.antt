@@ -7,6 +7,7 @@ pub mod Judged
 pub mod NameLaws
 pub mod NameLemmas
 pub mod OnLiterals
+pub mod Options
 pub mod PolicyLaws
 pub mod ReadLaws
 pub mod ReadingLemmas

@@ -9,7 +9,7 @@ use Rattle.std.specs.Option.{option_or}
 use Rattle.std.specs.Ordering.{eq_by_cmp, is_eq, nat_cmp}
 use Rattle.std.proofs.lemmas.Cmp.{nat_cmp_total}
 use Rattle.std.proofs.lemmas.List.Elements.{filter_map-append}
-use Rattle.std.proofs.lemmas.Map.Made.{option_or-none}
+use Rattle.wh_policy.proofs.Options.{option_or-none}
 use Rattle.wh_history.specs.Accepted.{Accepted, standing, format_of}
 use Rattle.wh_history.specs.Tables.{Limits, fact_of}
 use Rattle.wh_history.specs.declared.facts.Fact.{Fact}
