@@ -9,7 +9,7 @@ use Rattle.wh_admission.specs.Admission.{current_policy, content_of, accepted_as
 use Rattle.wh_admission.specs.declared.command.Command.{Command}
 use Rattle.wh_admission.specs.declared.command.Reply.{Reply}
 use Rattle.wh_admission.specs.declared.command.Reply.TheVariants.{Accepted as Accepts, Already}
-use Rattle.wh_admission.specs.declared.command.Refused.{Refused}
+use Rattle.wh_admission.specs.declared.command.Refusal.{Refusal}
 use Rattle.wh_admission.proofs.KeptBytes.{kept_says}
 use Rattle.wh_admission.proofs.StaysAccepted.{stays_accepted}
 
@@ -61,7 +61,7 @@ record IsReadFrom (making : Accepted) (commands : List Accepted) : Type 0 where
 
 module _ (making : Accepted) (limits : Limits) where
   module _ (commands : List Accepted) (c : Command) (from : IsReadFrom making commands) where
-    by_content : (r : Result Content Refused) → content_of c.kind (format_of commands) (current_policy commands) c.bytes ≡ r → IsReadFrom making (with_content commands c r)
+    by_content : (r : Result Content Refusal) → content_of c.kind (format_of commands) (current_policy commands) c.bytes ≡ r → IsReadFrom making (with_content commands c r)
     by_content (Ok content) is = record {
       later = from.later ++ accepted_as c content ∷ [];
       begins = ap (λ (list : List Accepted). list ++ accepted_as c content ∷ []) from.begins;
@@ -70,7 +70,7 @@ module _ (making : Accepted) (limits : Limits) where
     }
     by_content (Err why) is = from
 
-    by_answer : (r : Result Reply Refused) → IsReadFrom making (after_answer commands c r)
+    by_answer : (r : Result Reply Refusal) → IsReadFrom making (after_answer commands c r)
     by_answer (Ok (Accepts receipt)) = by_content (content_of c.kind (format_of commands) (current_policy commands) c.bytes) refl
     by_answer (Ok (Already receipt)) = from
     by_answer (Err why) = from

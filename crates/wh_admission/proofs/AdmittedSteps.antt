@@ -12,7 +12,7 @@ use Rattle.wh_admission.specs.declared.command.Command.{Command}
 use Rattle.wh_admission.specs.declared.command.Receipt.{Receipt}
 use Rattle.wh_admission.specs.declared.command.Reply.{Reply}
 use Rattle.wh_admission.specs.declared.command.Reply.TheVariants.{Accepted as Accepts, Already}
-use Rattle.wh_admission.specs.declared.command.Refused.{Refused}
+use Rattle.wh_admission.specs.declared.command.Refusal.{Refusal}
 use Rattle.wh_admission.proofs.KeptBytes.{kept_again, kept_says}
 use Rattle.wh_admission.proofs.Repeats.{new_id}
 use Rattle.wh_admission.proofs.StaysAccepted.{was_numbered, had_number}
@@ -32,7 +32,7 @@ nothing_added : (limits : Limits) (commands : List Accepted) → Adds limits com
 nothing_added limits commands = record { added = []; is = sym (append-nil commands); come = tt }
 
 module _ (limits : Limits) (commands : List Accepted) (c : Command) where
-  by_content : (read : Result Content Refused) (receipt : Receipt) → content_of c.kind (format_of commands) (current_policy commands) c.bytes ≡ read → is_key 40 c.id ≡ true → find (λ (a : Accepted). bytes_eq a.id c.id) commands ≡ None
+  by_content : (read : Result Content Refusal) (receipt : Receipt) → content_of c.kind (format_of commands) (current_policy commands) c.bytes ≡ read → is_key 40 c.id ≡ true → find (λ (a : Accepted). bytes_eq a.id c.id) commands ≡ None
       → when_read limits commands c read ≡ Ok (Accepts receipt) → Adds limits commands (with_content commands c read)
   by_content (Err why) receipt told good new h = nothing_added limits commands
   by_content (Ok content) receipt told good new h =
@@ -55,7 +55,7 @@ module _ (limits : Limits) (commands : List Accepted) (c : Command) where
         );
       }
 
-  by_answer : (a : Result Reply Refused) → answer limits commands c ≡ a → Adds limits commands (after_answer commands c a)
+  by_answer : (a : Result Reply Refusal) → answer limits commands c ≡ a → Adds limits commands (after_answer commands c a)
   by_answer (Ok (Already receipt)) said = nothing_added limits commands
   by_answer (Err why) said = nothing_added limits commands
   by_answer (Ok (Accepts receipt)) said =

@@ -5,19 +5,19 @@ use Rattle.std.specs.List.{AllByRecursion, IsDistinct}
 use Rattle.std.proofs.lemmas.Bool.{leb-true, leb-false, ltb-true, ltb-false}
 use Rattle.std.proofs.lemmas.Bool.Decides.{nat_tests}
 use Rattle.std.proofs.lemmas.Slice.Eq.{bytes_eq-Decides}
-use Rattle.wh_batch.specs.Kind.{command_word}
+use Rattle.wh_batch.specs.Kind.{command_kind_word}
 use Rattle.wh_history.specs.Accepted.{Accepted, Content, sold, sold_by, standing, withdrawn_by, format_of}
 use Rattle.wh_history.specs.Keys.{place, after_one, at_place}
 use Rattle.wh_history.specs.Tables.{Limits}
 use Rattle.wh_history.proofs.Basics.{some_is, both_true, find_passes, first_or}
 use Rattle.wh_model.specs.Sound.{changes_kept}
 use Rattle.wh_rows.specs.Types.{is_key}
-use Rattle.wh_admission.specs.Admission.{upgrades_again, bytes_kept, content_of, current_policy, receipt_of, changes_in, first_number, first_line_there, first_line_missing, number_past_lines, number_past_voids, number_for, answer_with, when_read, already as told_already, by_id, answer}
+use Rattle.wh_admission.specs.Admission.{upgrades_again, kept_bytes, content_of, current_policy, receipt_of, changes_in, first_number, first_line_there, first_line_missing, number_past_lines, number_past_voids, number_for, answer_with, when_read, already as told_already, by_id, answer}
 use Rattle.wh_admission.specs.Answers.{HasIdOf, IsAlike, IsNew, Says, MayBeCounted, FitsFormat, is_missing, WithdrawsStanding, is_sold, BringsNewLines, KeepsToChanges, IsFirst, IsAnswer, AnswerIsByCases, AnswersAreOne}
 use Rattle.wh_admission.specs.declared.command.Command.{Command}
 use Rattle.wh_admission.specs.declared.command.Reply.{Reply}
-use Rattle.wh_admission.specs.declared.command.Refused.{Refused}
-use Rattle.wh_admission.specs.declared.command.Refused.TheVariants.{BadId, Reused, Upgraded, Full}
+use Rattle.wh_admission.specs.declared.command.Refusal.{Refusal}
+use Rattle.wh_admission.specs.declared.command.Refusal.TheVariants.{BadId, Reused, Upgraded, Full}
 use Rattle.wh_admission.specs.declared.command.Limit.TheVariants.{Commands, Changes, Facts}
 use Rattle.wh_admission.proofs.StaysAccepted.{none_first_passes}
 
@@ -148,21 +148,21 @@ module _ {X : Type 0} (test : X → Bool) where
 -- ---- the cases
 
 module _ (limits : Limits) (commands : List Accepted) (c : Command) where
-  abbrev Is : Result Reply Refused → Type 0
+  abbrev Is : Result Reply Refusal → Type 0
   Is said = IsAnswer limits commands c said
 
   abbrev found : Option Accepted
   found = find (has_id c.id) commands
 
-  alike : (a : Accepted) (b : Bool) → (bytes_eq a.kind (command_word c.kind) && bytes_eq a.bytes (bytes_kept c.kind c.bytes)) ≡ b → HasIdOf commands c (place bytes_eq c.id (ids commands)) a
+  alike : (a : Accepted) (b : Bool) → (bytes_eq a.kind (command_kind_word c.kind) && bytes_eq a.bytes (kept_bytes c.kind c.bytes)) ≡ b → HasIdOf commands c (place bytes_eq c.id (ids commands)) a
       → Is (told_already (cond b (Ok (receipt_of commands (place bytes_eq c.id (ids commands)) a.content)) (Err Reused)))
   alike a true same has =
-      let both = both_true (bytes_eq a.kind (command_word c.kind)) (bytes_eq a.bytes (bytes_kept c.kind c.bytes)) same in
-      IsAnswer.already (place bytes_eq c.id (ids commands)) a has (record { kind = (bytes_eq-Decides a.kind (command_word c.kind)).0 both.0; bytes = (bytes_eq-Decides a.bytes (bytes_kept c.kind c.bytes)).0 both.1 })
+      let both = both_true (bytes_eq a.kind (command_kind_word c.kind)) (bytes_eq a.bytes (kept_bytes c.kind c.bytes)) same in
+      IsAnswer.already (place bytes_eq c.id (ids commands)) a has (record { kind = (bytes_eq-Decides a.kind (command_kind_word c.kind)).0 both.0; bytes = (bytes_eq-Decides a.bytes (kept_bytes c.kind c.bytes)).0 both.1 })
   alike a false other has = IsAnswer.reused (place bytes_eq c.id (ids commands)) a has (λ it.
-      let kind = (bytes_eq-Decides a.kind (command_word c.kind)).1 it.kind in
-      let bytes = (bytes_eq-Decides a.bytes (bytes_kept c.kind c.bytes)).1 it.bytes in
-      let no : (bytes_eq a.kind (command_word c.kind) && bytes_eq a.bytes (bytes_kept c.kind c.bytes)) ≡ true = rw (kind, bytes) refl in
+      let kind = (bytes_eq-Decides a.kind (command_kind_word c.kind)).1 it.kind in
+      let bytes = (bytes_eq-Decides a.bytes (kept_bytes c.kind c.bytes)).1 it.bytes in
+      let no : (bytes_eq a.kind (command_kind_word c.kind) && bytes_eq a.bytes (kept_bytes c.kind c.bytes)) ≡ true = rw (kind, bytes) refl in
       cc)
 
   module _ (content : Content) where
@@ -193,12 +193,12 @@ module _ (limits : Limits) (commands : List Accepted) (c : Command) where
     room true full says = IsAnswer.commands_full content says (leb-true _ _ full)
     room false left says = once (upgrades_again commands content) refl (record { says = says; commands_left = leb-false _ _ left })
 
-  read : (told : Result Content Refused) → content_of c.kind (format_of commands) (current_policy commands) c.bytes ≡ told → IsNew commands c → Is (when_read limits commands c told)
+  read : (told : Result Content Refusal) → content_of c.kind (format_of commands) (current_policy commands) c.bytes ≡ told → IsNew commands c → Is (when_read limits commands c told)
   read (Err why) is new = IsAnswer.faulty why new is
   read (Ok content) is new = room content (nat_le limits.commands (length commands)) refl (record { new = new; read = is })
 
   known : (o : Option Accepted) → found ≡ o → is_key 40 c.id ≡ true → Is (by_id limits commands c o)
-  known (Some a) is good = alike a (bytes_eq a.kind (command_word c.kind) && bytes_eq a.bytes (bytes_kept c.kind c.bytes)) refl
+  known (Some a) is good = alike a (bytes_eq a.kind (command_kind_word c.kind) && bytes_eq a.bytes (kept_bytes c.kind c.bytes)) refl
       (record { good = good; there = found_there c.id commands a is; same_id = (bytes_eq-Decides a.id c.id).0 (find_passes (has_id c.id) a commands is) })
   known None is good = read (content_of c.kind (format_of commands) (current_policy commands) c.bytes) refl (record { good = good; others = none_has c.id commands is })
 
@@ -217,10 +217,10 @@ module _ (limits : Limits) (commands : List Accepted) (c : Command) where
   by_says : (content : Content) → Says commands c content → answer limits commands c ≡ answer_with commands c content (number_for limits commands content)
   by_says content says = by_new says.new ∙ ap (when_read limits commands c) says.read
 
-  abbrev past_count : Content → Bool → Result ℕ Refused
+  abbrev past_count : Content → Bool → Result ℕ Refusal
   past_count content b = cond b (Err (Full Commands)) (cond (upgrades_again commands content) (Err Upgraded) (number_past_voids limits commands content (first_line_missing (standing commands) 1 (withdrawn_by content))))
 
-  abbrev past_format : Content → Bool → Result ℕ Refused
+  abbrev past_format : Content → Bool → Result ℕ Refusal
   past_format content b = cond b (Err Upgraded) (number_past_voids limits commands content (first_line_missing (standing commands) 1 (withdrawn_by content)))
 
   by_count : (content : Content) → MayBeCounted limits commands c content → answer limits commands c ≡ answer_with commands c content (past_format content (upgrades_again commands content))
@@ -246,7 +246,7 @@ module _ (limits : Limits) (commands : List Accepted) (c : Command) where
       by_lines content keeps.lines ∙ ap (λ b. answer_with commands c content (cond b (Err (Full Changes)) (cond (nat_lt limits.facts (length (sold commands) + length (sold_by content))) (Err (Full Facts)) (Ok (suc (length commands)))))) no
 
   module _ (once : IsDistinct bytes_eq (ids commands)) where
-    has_answer : (number : ℕ) (a : Accepted) (b : Bool) → HasIdOf commands c number a → (bytes_eq a.kind (command_word c.kind) && bytes_eq a.bytes (bytes_kept c.kind c.bytes)) ≡ b
+    has_answer : (number : ℕ) (a : Accepted) (b : Bool) → HasIdOf commands c number a → (bytes_eq a.kind (command_kind_word c.kind) && bytes_eq a.bytes (kept_bytes c.kind c.bytes)) ≡ b
         → answer limits commands c ≡ told_already (cond b (Ok (receipt_of commands number a.content)) (Err Reused))
     has_answer number a b has is =
         let good = has.good in
@@ -255,19 +255,19 @@ module _ (limits : Limits) (commands : List Accepted) (c : Command) where
         let number_is = at.placed in
         rw (good, there, number_is, is) refl
 
-    only : (said : Result Reply Refused) → Is said → said ≡ answer limits commands c
+    only : (said : Result Reply Refusal) → Is said → said ≡ answer limits commands c
     only _ (IsAnswer.bad_id bad) = rw bad refl
     only _ (IsAnswer.already number a has same) =
-        let kind = (bytes_eq-Decides a.kind (command_word c.kind)).1 same.kind in
-        let bytes = (bytes_eq-Decides a.bytes (bytes_kept c.kind c.bytes)).1 same.bytes in
+        let kind = (bytes_eq-Decides a.kind (command_kind_word c.kind)).1 same.kind in
+        let bytes = (bytes_eq-Decides a.bytes (kept_bytes c.kind c.bytes)).1 same.bytes in
         sym (has_answer number a true has (rw (kind, bytes) refl))
     only _ (IsAnswer.reused number a has other) = sym (has_answer number a false has (not_alike a other))
       where
-        not_alike : (a : Accepted) → ¬ IsAlike a c → (bytes_eq a.kind (command_word c.kind) && bytes_eq a.bytes (bytes_kept c.kind c.bytes)) ≡ false
-        not_alike a other = elim (bytes_eq a.kind (command_word c.kind) && bytes_eq a.bytes (bytes_kept c.kind c.bytes)) as (λ b. ((bytes_eq a.kind (command_word c.kind) && bytes_eq a.bytes (bytes_kept c.kind c.bytes)) ≡ b) → b ≡ false) [
+        not_alike : (a : Accepted) → ¬ IsAlike a c → (bytes_eq a.kind (command_kind_word c.kind) && bytes_eq a.bytes (kept_bytes c.kind c.bytes)) ≡ false
+        not_alike a other = elim (bytes_eq a.kind (command_kind_word c.kind) && bytes_eq a.bytes (kept_bytes c.kind c.bytes)) as (λ b. ((bytes_eq a.kind (command_kind_word c.kind) && bytes_eq a.bytes (kept_bytes c.kind c.bytes)) ≡ b) → b ≡ false) [
           | true ↦ λ same.
-              let both = both_true (bytes_eq a.kind (command_word c.kind)) (bytes_eq a.bytes (bytes_kept c.kind c.bytes)) same in
-              absurd (other (record { kind = (bytes_eq-Decides a.kind (command_word c.kind)).0 both.0; bytes = (bytes_eq-Decides a.bytes (bytes_kept c.kind c.bytes)).0 both.1 }))
+              let both = both_true (bytes_eq a.kind (command_kind_word c.kind)) (bytes_eq a.bytes (kept_bytes c.kind c.bytes)) same in
+              absurd (other (record { kind = (bytes_eq-Decides a.kind (command_kind_word c.kind)).0 both.0; bytes = (bytes_eq-Decides a.bytes (kept_bytes c.kind c.bytes)).0 both.1 }))
           | false ↦ λ _. refl
         ] refl
     only _ (IsAnswer.faulty why new is) = sym (by_new new ∙ ap (when_read limits commands c) is)

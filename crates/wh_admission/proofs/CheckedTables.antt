@@ -5,14 +5,14 @@ use Rattle.wh_policy.specs.declared.attribute.Dim.TheVariants.{Product as Produc
 use Rattle.wh_policy.specs.declared.format.Format.{Format}
 use Rattle.wh_policy.specs.declared.policy.Policy.{Policy}
 use Rattle.wh_policy.specs.declared.fault.PolicyFault.{PolicyFault}
-use Rattle.wh_policy.specs.Policy.{policy_at}
-use Rattle.wh_batch.specs.Kind.{command_word, command_kind_of}
+use Rattle.wh_policy.specs.Policy.{read_policy}
+use Rattle.wh_batch.specs.Kind.{command_kind_word, command_kind_of_word}
 use Rattle.wh_batch.specs.declared.kind.Kind.TheVariants.{Dimension, Sales, Voids}
 use Rattle.wh_batch.specs.declared.kind.CommandKind.{CommandKind}
 use Rattle.wh_batch.specs.declared.kind.CommandKind.TheVariants.{Batch, Migration, Upgrade}
 use Rattle.wh_history.specs.Accepted.{Accepted, Content, records_by, placeholders_by, format_of}
 use Rattle.wh_history.specs.Tables as history
-use Rattle.wh_admission.specs.declared.command.Refused.{Refused}
+use Rattle.wh_admission.specs.declared.command.Refusal.{Refusal}
 use Rattle.wh_history.specs.Keys.{at_place}
 use Rattle.wh_history.specs.Tables.{Limits, meta_value}
 use Rattle.wh_history.proofs.Basics.{some_is}
@@ -87,7 +87,7 @@ lists_same f (x ∷ xs) (y ∷ ys) each =
     let rest = lists_same f xs ys (λ n. each (suc n)) in
     λ i. first i ∷ rest i
 
-pub kind_again : (kind : CommandKind) → command_kind_of (command_word kind) ≡ Some kind
+pub kind_again : (kind : CommandKind) → command_kind_of_word (command_kind_word kind) ≡ Some kind
 kind_again (Batch (Dimension Products)) = refl
 kind_again (Batch (Dimension Stores)) = refl
 kind_again (Batch (Dimension Customers)) = refl
@@ -96,11 +96,11 @@ kind_again (Batch Voids) = refl
 kind_again Migration = refl
 kind_again Upgrade = refl
 
-pub same_kind : (kind other : CommandKind) → command_word kind ≡ command_word other → kind ≡ other
-same_kind kind other is = some_is kind other (sym (kind_again kind) ∙ ap command_kind_of is ∙ kind_again other)
+pub same_kind : (kind other : CommandKind) → command_kind_word kind ≡ command_kind_word other → kind ≡ other
+same_kind kind other is = some_is kind other (sym (kind_again kind) ∙ ap command_kind_of_word is ∙ kind_again other)
 
 -- what is read as two contents is read as one
-pub ok_is : (x y : Content) → ◌≡◌ {A = Result Content Refused} (Ok x) (Ok y) → x ≡ y
+pub ok_is : (x y : Content) → ◌≡◌ {A = Result Content Refusal} (Ok x) (Ok y) → x ≡ y
 ok_is x y h = cc
 
 policy_is : (x y : Policy) → ◌≡◌ {A = Result Policy PolicyFault} (Ok x) (Ok y) → x ≡ y
@@ -138,7 +138,7 @@ by_steps limits commands told one two same =
     let first = making_of one.policy one.bytes in
     let second = making_of two.policy two.bytes in
     let parts = both_begin first second one.later two.later (sym (ap (map header) one.begins) ∙ same ∙ ap (map header) two.begins) in
-    let policy : one.policy ≡ two.policy = policy_is one.policy two.policy (sym one.written ∙ ap policy_at parts.0.bytes ∙ two.written) in
+    let policy : one.policy ≡ two.policy = policy_is one.policy two.policy (sym one.written ∙ ap read_policy parts.0.bytes ∙ two.written) in
     let making : first ≡ second = λ i. making_of (policy i) (parts.0.bytes i) in
     let later = same_after limits (first ∷ []) one.later two.later one.come (subst (λ (m : Accepted). ComeAfter limits (m ∷ []) two.later) (sym making) two.come) parts.1 in
     one.begins ∙ (λ i. making i ∷ later i) ∙ sym two.begins

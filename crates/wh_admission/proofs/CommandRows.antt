@@ -2,10 +2,10 @@
 use Rattle.std.proofs.Common.{◌≡◌, ℕ, suc, ◌-◌, Bool, true, false, cond, List, [], ◌∷◌, ◌++◌, length, take, Option, Some, None, refl, sym, ap, subst, ◌∙◌, arith}
 use Rattle.std.specs.Prelude.{bytes_eq, codes, option_map}
 use Rattle.std.proofs.lemmas.Slice.Eq.{bytes_eq-Decides}
-use Rattle.wh_policy.specs.Words.{word_of, dim_of_word}
+use Rattle.wh_policy.specs.Words.{dim_word, dim_of_word}
 use Rattle.wh_policy.specs.declared.attribute.Dim.{Dim}
 use Rattle.wh_policy.specs.declared.attribute.Dim.TheVariants.{Product, Store, Customer}
-use Rattle.wh_batch.specs.Kind.{command_word, command_kind_of, kind_of_word}
+use Rattle.wh_batch.specs.Kind.{command_kind_word, command_kind_of_word, kind_of_word}
 use Rattle.wh_batch.specs.declared.kind.Kind.TheVariants.{Dimension, Sales, Voids}
 use Rattle.wh_batch.specs.declared.kind.CommandKind.TheVariants.{Batch, Migration, Upgrade}
 use Rattle.wh_batch.specs.declared.kind.CommandKind.{CommandKind}
@@ -56,31 +56,31 @@ module _ (commands : List Accepted) (a : Accepted) (more : List Accepted) where
 
 -- the word of a kind that a word is read as
 find_dim : (word : List ℕ) (p s c : Bool) (dim : Dim) → bytes_eq word (codes "product") ≡ p → bytes_eq word (codes "store") ≡ s → bytes_eq word (codes "customer") ≡ c
-    → cond p (Some Product) (cond s (Some Store) (cond c (Some Customer) None)) ≡ Some dim → word ≡ word_of dim
-find_dim word true s c dim is _ _ h = subst (λ d. word ≡ word_of d) (some_is Product dim h) ((bytes_eq-Decides word (codes "product")).0 is)
-find_dim word false true c dim _ is _ h = subst (λ d. word ≡ word_of d) (some_is Store dim h) ((bytes_eq-Decides word (codes "store")).0 is)
-find_dim word false false true dim _ _ is h = subst (λ d. word ≡ word_of d) (some_is Customer dim h) ((bytes_eq-Decides word (codes "customer")).0 is)
+    → cond p (Some Product) (cond s (Some Store) (cond c (Some Customer) None)) ≡ Some dim → word ≡ dim_word dim
+find_dim word true s c dim is _ _ h = subst (λ d. word ≡ dim_word d) (some_is Product dim h) ((bytes_eq-Decides word (codes "product")).0 is)
+find_dim word false true c dim _ is _ h = subst (λ d. word ≡ dim_word d) (some_is Store dim h) ((bytes_eq-Decides word (codes "store")).0 is)
+find_dim word false false true dim _ _ is h = subst (λ d. word ≡ dim_word d) (some_is Customer dim h) ((bytes_eq-Decides word (codes "customer")).0 is)
 find_dim word false false false dim _ _ _ h = absurd cc
 
-pub word_is : (word : List ℕ) (kind : CommandKind) → command_kind_of word ≡ Some kind → word ≡ command_word kind
+pub word_is : (word : List ℕ) (kind : CommandKind) → command_kind_of_word word ≡ Some kind → word ≡ command_kind_word kind
 word_is word kind h = first (bytes_eq word (codes "migrate")) refl h
   where
-    dims : (o : Option Dim) → dim_of_word word ≡ o → option_map Batch (option_map Dimension o) ≡ Some kind → word ≡ command_word kind
+    dims : (o : Option Dim) → dim_of_word word ≡ o → option_map Batch (option_map Dimension o) ≡ Some kind → word ≡ command_kind_word kind
     dims None is back = absurd cc
-    dims (Some dim) is back = find_dim word (bytes_eq word (codes "product")) (bytes_eq word (codes "store")) (bytes_eq word (codes "customer")) dim refl refl refl is ∙ ap command_word (some_is (Batch (Dimension dim)) kind back)
+    dims (Some dim) is back = find_dim word (bytes_eq word (codes "product")) (bytes_eq word (codes "store")) (bytes_eq word (codes "customer")) dim refl refl refl is ∙ ap command_kind_word (some_is (Batch (Dimension dim)) kind back)
 
-    third : (v : Bool) → bytes_eq word (codes "void") ≡ v → option_map Batch (cond v (Some Voids) (option_map Dimension (dim_of_word word))) ≡ Some kind → word ≡ command_word kind
-    third true is back = (bytes_eq-Decides word (codes "void")).0 is ∙ ap command_word (some_is (Batch Voids) kind back)
+    third : (v : Bool) → bytes_eq word (codes "void") ≡ v → option_map Batch (cond v (Some Voids) (option_map Dimension (dim_of_word word))) ≡ Some kind → word ≡ command_kind_word kind
+    third true is back = (bytes_eq-Decides word (codes "void")).0 is ∙ ap command_kind_word (some_is (Batch Voids) kind back)
     third false is back = dims (dim_of_word word) refl back
 
-    second : (s : Bool) → bytes_eq word (codes "sales") ≡ s → option_map Batch (cond s (Some Sales) (cond (bytes_eq word (codes "void")) (Some Voids) (option_map Dimension (dim_of_word word)))) ≡ Some kind → word ≡ command_word kind
-    second true is back = (bytes_eq-Decides word (codes "sales")).0 is ∙ ap command_word (some_is (Batch Sales) kind back)
+    second : (s : Bool) → bytes_eq word (codes "sales") ≡ s → option_map Batch (cond s (Some Sales) (cond (bytes_eq word (codes "void")) (Some Voids) (option_map Dimension (dim_of_word word)))) ≡ Some kind → word ≡ command_kind_word kind
+    second true is back = (bytes_eq-Decides word (codes "sales")).0 is ∙ ap command_kind_word (some_is (Batch Sales) kind back)
     second false is back = third (bytes_eq word (codes "void")) refl back
 
-    upgrade : (u : Bool) → bytes_eq word (codes "upgrade") ≡ u → cond u (Some Upgrade) (option_map Batch (kind_of_word word)) ≡ Some kind → word ≡ command_word kind
-    upgrade true is back = (bytes_eq-Decides word (codes "upgrade")).0 is ∙ ap command_word (some_is Upgrade kind back)
+    upgrade : (u : Bool) → bytes_eq word (codes "upgrade") ≡ u → cond u (Some Upgrade) (option_map Batch (kind_of_word word)) ≡ Some kind → word ≡ command_kind_word kind
+    upgrade true is back = (bytes_eq-Decides word (codes "upgrade")).0 is ∙ ap command_kind_word (some_is Upgrade kind back)
     upgrade false is back = second (bytes_eq word (codes "sales")) refl back
 
-    first : (m : Bool) → bytes_eq word (codes "migrate") ≡ m → cond m (Some Migration) (cond (bytes_eq word (codes "upgrade")) (Some Upgrade) (option_map Batch (kind_of_word word))) ≡ Some kind → word ≡ command_word kind
-    first true is back = (bytes_eq-Decides word (codes "migrate")).0 is ∙ ap command_word (some_is Migration kind back)
+    first : (m : Bool) → bytes_eq word (codes "migrate") ≡ m → cond m (Some Migration) (cond (bytes_eq word (codes "upgrade")) (Some Upgrade) (option_map Batch (kind_of_word word))) ≡ Some kind → word ≡ command_kind_word kind
+    first true is back = (bytes_eq-Decides word (codes "migrate")).0 is ∙ ap command_kind_word (some_is Migration kind back)
     first false is back = upgrade (bytes_eq word (codes "upgrade")) refl back

@@ -11,10 +11,10 @@ use Rattle.wh_policy.specs.declared.attribute.Dim.TheVariants.{Product, Store, C
 use Rattle.wh_policy.specs.declared.policy.Policy.{Policy}
 use Rattle.wh_policy.specs.declared.record.SaleRecord.{SaleRecord}
 use Rattle.wh_batch.specs.Batch.{is_same_key}
-use Rattle.wh_batch.specs.Fields.{key_at, customer_at, day_at}
+use Rattle.wh_batch.specs.Fields.{key_of, customer_of, day_of}
 use Rattle.wh_batch.specs.Grammar.{WritesDigits, WritesLine, WritesHundredths, WritesSigned}
 use Rattle.wh_batch.specs.Layouts.{undiscounted, discount_in, tenth, sale_record, sale_key, sales_layout, sale_records}
-use Rattle.wh_batch.specs.Numbers.{read_hundredths, read_line, read_quantity, read_amount, line_at, quantity_at, amount_at}
+use Rattle.wh_batch.specs.Numbers.{read_hundredths, read_line, read_quantity, read_amount, line_of, quantity_of, amount_of}
 use Rattle.wh_batch.specs.declared.fault.FaultKind.{FaultKind}
 use Rattle.wh_batch.specs.declared.fault.FaultKind.TheVariants.{BadDay, BadNumber, WrongLength}
 use Rattle.wh_policy.specs.declared.format.Format.{Format}
@@ -34,7 +34,7 @@ use Rattle.wh_model.proofs.SameLines.{same_either}
 digits_below : (least most : ℕ) (text : List ℕ) (n : ℕ) → WritesDigits least most text n → n < 10 ^ most
 digits_below least most text n w = subst (λ m. m < 10 ^ most) w.value (digits-bound most text w.digits w.few)
 
-good_line : (field : List ℕ) (n : ℕ) → line_at field ≡ Ok n → is_line n ≡ true
+good_line : (field : List ℕ) (n : ℕ) → line_of field ≡ Ok n → is_line n ≡ true
 good_line field n h =
     let line : WritesLine field n = (reads_lines field n).0 (read_ok BadNumber (read_line field) n h) in
     let below = digits_below 1 4 field n line.digits in
@@ -52,7 +52,7 @@ signed_measure most Writes up _ _ (WritesSigned.minus text n w) = rw (abs_minus 
 few_pieces : (text : List ℕ) (n : ℕ) → WritesDigits 1 4 text n → n ≤ 9999
 few_pieces text n w = let below = digits_below 1 4 text n w in omega arith
 
-good_quantity : (field : List ℕ) (x : ℤ) → quantity_at field ≡ Ok x → is_measure 9999 x ≡ true
+good_quantity : (field : List ℕ) (x : ℤ) → quantity_of field ≡ Ok x → is_measure 9999 x ≡ true
 good_quantity field x h = signed_measure 9999 (WritesDigits 1 4) few_pieces field x ((reads_quantities field x).0 (read_ok BadNumber (read_quantity field) x h))
 
 few_hundredths : (text : List ℕ) (n : ℕ) → WritesHundredths text n → n ≤ 999999999
@@ -60,20 +60,20 @@ few_hundredths _ _ (WritesHundredths.whole text n w) = let below = digits_below 
 few_hundredths _ _ (WritesHundredths.tenths text part n m w v) = let below = digits_below 1 7 text n w in let last = digits_below 1 1 part m v in omega arith
 few_hundredths _ _ (WritesHundredths.hundredths text part n m w v) = let below = digits_below 1 7 text n w in let last = digits_below 2 2 part m v in omega arith
 
-good_amount : (field : List ℕ) (x : ℤ) → amount_at field ≡ Ok x → is_measure 999999999 x ≡ true
+good_amount : (field : List ℕ) (x : ℤ) → amount_of field ≡ Ok x → is_measure 999999999 x ≡ true
 good_amount field x h = signed_measure 999999999 WritesHundredths few_hundredths field x ((reads_amounts field x).0 (read_ok BadNumber (read_amount field) x h))
 
 -- ---- the members and the day
 
-sale_day : (field : List ℕ) (number : ℕ) → day_at field ≡ Ok number → is_day number ≡ true
-unfolding day_at
+sale_day : (field : List ℕ) (number : ℕ) → day_of field ≡ Ok number → is_day number ≡ true
+unfolding day_of
 sale_day field number h = (text_is field number (read_ok BadDay (read_day field) number h)).0
 
-customer_key : (field : List ℕ) (customer : Option (List ℕ)) → customer_at field ≡ Ok customer → (natural : List ℕ) → customer ≡ Some natural → is_key 32 natural ≡ true
-unfolding customer_at
+customer_key : (field : List ℕ) (customer : Option (List ℕ)) → customer_of field ≡ Ok customer → (natural : List ℕ) → customer ≡ Some natural → is_key 32 natural ≡ true
+unfolding customer_of
 customer_key [] customer h natural is = absurd cc
 customer_key (first ∷ rest) customer h natural is =
-    let (key, read, more) = bind_ok (key_at 32 (first ∷ rest)) _ customer h in
+    let (key, read, more) = bind_ok (key_of 32 (first ∷ rest)) _ customer h in
     let same : key ≡ natural = cc in
     subst (λ text. is_key 32 text ≡ true) same (good_key 32 (first ∷ rest) key read)
 
@@ -95,15 +95,15 @@ read_is x y h = cc
 good_undiscounted : (fields : List (List ℕ)) (s : SaleRecord) → undiscounted fields ≡ Ok s → IsGoodSale s
 unfolding undiscounted
 good_undiscounted (ticket ∷ line ∷ day ∷ store ∷ product ∷ customer ∷ quantity ∷ amount ∷ cost ∷ []) s h =
-    let (ticket_key, ticket_is, h1) = bind_ok (key_at 20 ticket) _ s h in
-    let (number, line_is, h2) = bind_ok (line_at line) _ s h1 in
-    let (sold_on, day_is, h3) = bind_ok (day_at day) _ s h2 in
-    let (store_key, store_is, h4) = bind_ok (key_at 32 store) _ s h3 in
-    let (product_key, product_is, h5) = bind_ok (key_at 32 product) _ s h4 in
-    let (customer_is, customer_read, h6) = bind_ok (customer_at customer) _ s h5 in
-    let (pieces, quantity_is, h7) = bind_ok (quantity_at quantity) _ s h6 in
-    let (paid, amount_is, h8) = bind_ok (amount_at amount) _ s h7 in
-    let (spent, cost_is, h9) = bind_ok (amount_at cost) _ s h8 in
+    let (ticket_key, ticket_is, h1) = bind_ok (key_of 20 ticket) _ s h in
+    let (number, line_is, h2) = bind_ok (line_of line) _ s h1 in
+    let (sold_on, day_is, h3) = bind_ok (day_of day) _ s h2 in
+    let (store_key, store_is, h4) = bind_ok (key_of 32 store) _ s h3 in
+    let (product_key, product_is, h5) = bind_ok (key_of 32 product) _ s h4 in
+    let (customer_is, customer_read, h6) = bind_ok (customer_of customer) _ s h5 in
+    let (pieces, quantity_is, h7) = bind_ok (quantity_of quantity) _ s h6 in
+    let (paid, amount_is, h8) = bind_ok (amount_of amount) _ s h7 in
+    let (spent, cost_is, h9) = bind_ok (amount_of cost) _ s h8 in
     let made : SaleRecord = record { ticket = ticket_key; line = number; day = sold_on; store = store_key; product = product_key; customer = customer_is; quantity = pieces; amount = paid; cost = spent; discount = 0 } in
     let e : made ≡ s = read_is made s h9 in
     rw (← e) (record {

@@ -13,7 +13,7 @@ use Rattle.wh_batch.specs.declared.kind.Kind.TheVariants.{Dimension, Sales, Void
 use Rattle.wh_batch.specs.Layouts.{void_key, voids_layout, void_records}
 use Rattle.wh_batch.proofs.GoodLemmas.{bind_ok, reads_batches}
 use Rattle.wh_history.specs.Accepted.{Governs, Describes, Sells, Withdraws}
-use Rattle.wh_admission.specs.Admission.{records_told, sales_told, policy_told, content_of}
+use Rattle.wh_admission.specs.Admission.{judged_records, judged_sales, judged_policy, content_of}
 use Rattle.wh_model.specs.Sound.{same_void}
 use Rattle.wh_model.proofs.SameLines.{line_turned}
 
@@ -39,9 +39,9 @@ none_voided bytes voids h = absurd cc
 -- what withdraws lines is of the second format
 pub voids_are_second : (kind : CommandKind) (format : Format) (policy : Policy) (bytes : List ℕ) (voids : List VoidRecord) → content_of kind format policy bytes ≡ Ok (Withdraws voids) → format ≡ Two
 unfolding void_records
-voids_are_second (Batch (Dimension dim)) format policy bytes voids told = absurd (let (records, given, last) = bind_ok (records_told dim policy bytes) (λ records. Ok (Describes dim records)) (Withdraws voids) told in cc)
-voids_are_second (Batch Sales) format policy bytes voids told = absurd (let (sales, given, last) = bind_ok (sales_told format policy bytes) (λ sales. Ok (Sells sales)) (Withdraws voids) told in cc)
+voids_are_second (Batch (Dimension dim)) format policy bytes voids told = absurd (let (records, given, last) = bind_ok (judged_records dim policy bytes) (λ records. Ok (Describes dim records)) (Withdraws voids) told in cc)
+voids_are_second (Batch Sales) format policy bytes voids told = absurd (let (sales, given, last) = bind_ok (judged_sales format policy bytes) (λ sales. Ok (Sells sales)) (Withdraws voids) told in cc)
 voids_are_second (Batch Voids) One policy bytes voids told = absurd cc
 voids_are_second (Batch Voids) Two policy bytes voids told = refl
-voids_are_second Migration format policy bytes voids told = absurd (let (newer, given, last) = bind_ok (policy_told policy bytes) (λ newer. Ok (Governs newer)) (Withdraws voids) told in cc)
+voids_are_second Migration format policy bytes voids told = absurd (let (newer, given, last) = bind_ok (judged_policy policy bytes) (λ newer. Ok (Governs newer)) (Withdraws voids) told in cc)
 voids_are_second Upgrade format policy bytes voids told = absurd cc

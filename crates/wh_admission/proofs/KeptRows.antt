@@ -9,7 +9,7 @@ use Rattle.std.proofs.lemmas.Slice.Eq.{bytes_eq-Decides}
 use Rattle.sqlite.specs.Order.{Row}
 use Rattle.sqlite_rules.specs.Lists.{Has}
 use Rattle.sqlite_rules.proofs.ListLemmas.{has_filtered}
-use Rattle.wh_batch.specs.Kind.{command_word}
+use Rattle.wh_batch.specs.Kind.{command_kind_word}
 use Rattle.wh_rows.specs.Questions.{has_id}
 use Rattle.wh_rows.specs.Raw.{Stored, IsLastOf}
 use Rattle.wh_rows.specs.Rows as layout
@@ -19,11 +19,11 @@ use Rattle.wh_rows.specs.declared.table.Table.TheVariants as table
 use Rattle.wh_model.proofs.FoundPlaces.{same_text_is}
 use Rattle.wh_rows.proofs.EachTable.Commands.{of_id_stored}
 use Rattle.wh_rows.proofs.Raw.{has_again}
-use Rattle.wh_admission.specs.Admission.{bytes_kept, receipt_again}
+use Rattle.wh_admission.specs.Admission.{kept_bytes, receipt_again}
 use Rattle.wh_admission.specs.Repeated.{IsKept}
 use Rattle.wh_admission.specs.declared.command.Command.{Command}
 use Rattle.wh_admission.specs.declared.command.Receipt.{Receipt}
-use Rattle.wh_admission.specs.declared.command.Refused.TheVariants.{Reused}
+use Rattle.wh_admission.specs.declared.command.Refusal.TheVariants.{Reused}
 
 pub last_valid : {V : Type 0} (p : V → Bool) (before : List V) (v : V) → list_all p (before ++ v ∷ []) ≡ true → p v ≡ true
 last_valid p [] v all = (and_parts (p v) true all).0
@@ -33,12 +33,12 @@ has_last : {V : Type 0} (f : V → Row) (before : List V) (v : V) → Has (map f
 has_last f [] v = inl refl
 has_last f (b ∷ before) v = inr (has_last f before v)
 
-receipt_of_alike : (kind bytes : List ℕ) (c : Command) (kept receipt : Receipt) → receipt_again kind bytes c kept ≡ Ok receipt → (kind ≡ command_word c.kind) × (bytes ≡ bytes_kept c.kind c.bytes) × (receipt ≡ kept)
-receipt_of_alike kind bytes c kept receipt is = go (bytes_eq kind (command_word c.kind)) (bytes_eq bytes (bytes_kept c.kind c.bytes)) refl refl is
+receipt_of_alike : (kind bytes : List ℕ) (c : Command) (kept receipt : Receipt) → receipt_again kind bytes c kept ≡ Ok receipt → (kind ≡ command_kind_word c.kind) × (bytes ≡ kept_bytes c.kind c.bytes) × (receipt ≡ kept)
+receipt_of_alike kind bytes c kept receipt is = go (bytes_eq kind (command_kind_word c.kind)) (bytes_eq bytes (kept_bytes c.kind c.bytes)) refl refl is
   where
-    go : (same_kind same_bytes : Bool) → bytes_eq kind (command_word c.kind) ≡ same_kind → bytes_eq bytes (bytes_kept c.kind c.bytes) ≡ same_bytes → (if same_kind && same_bytes then Ok kept else Err Reused) ≡ Ok receipt
-        → (kind ≡ command_word c.kind) × (bytes ≡ bytes_kept c.kind c.bytes) × (receipt ≡ kept)
-    go true true k b is = ((bytes_eq-Decides kind (command_word c.kind)).0 k, (bytes_eq-Decides bytes (bytes_kept c.kind c.bytes)).0 b, cc)
+    go : (same_kind same_bytes : Bool) → bytes_eq kind (command_kind_word c.kind) ≡ same_kind → bytes_eq bytes (kept_bytes c.kind c.bytes) ≡ same_bytes → (if same_kind && same_bytes then Ok kept else Err Reused) ≡ Ok receipt
+        → (kind ≡ command_kind_word c.kind) × (bytes ≡ kept_bytes c.kind c.bytes) × (receipt ≡ kept)
+    go true true k b is = ((bytes_eq-Decides kind (command_kind_word c.kind)).0 k, (bytes_eq-Decides bytes (kept_bytes c.kind c.bytes)).0 b, cc)
     go true false k b is = absurd cc
     go false same_bytes k b is = absurd cc
 

@@ -9,14 +9,14 @@ use Rattle.wh_history.specs.Tables.{Limits}
 use Rattle.wh_history.proofs.Numbers.{place-append_front}
 use Rattle.wh_history.proofs.Basics.{first_or}
 use Rattle.wh_rows.specs.Types.{is_key}
-use Rattle.wh_batch.specs.Kind.{command_word}
-use Rattle.wh_admission.specs.Admission.{bytes_kept, content_of, current_policy, accepted_as, receipt_of, receipt_told, already, number_for, answer_with, when_read, answer, with_content, after_answer, accepted_after, accepted_after_all, ActsOnceLater}
+use Rattle.wh_batch.specs.Kind.{command_kind_word}
+use Rattle.wh_admission.specs.Admission.{kept_bytes, content_of, current_policy, accepted_as, receipt_of, receipt_told, already, number_for, answer_with, when_read, answer, with_content, after_answer, accepted_after, accepted_after_all, ActsOnceLater}
 use Rattle.wh_admission.specs.declared.command.Command.{Command}
 use Rattle.wh_admission.specs.declared.command.Receipt.{Receipt}
 use Rattle.wh_admission.specs.declared.command.Reply.{Reply}
 use Rattle.wh_admission.specs.declared.command.Reply.TheVariants.{Accepted as Accepts, Already}
-use Rattle.wh_admission.specs.declared.command.Refused.{Refused}
-use Rattle.wh_admission.specs.declared.command.Refused.TheVariants.{Reused}
+use Rattle.wh_admission.specs.declared.command.Refusal.{Refusal}
+use Rattle.wh_admission.specs.declared.command.Refusal.TheVariants.{Reused}
 use Rattle.wh_admission.proofs.AdmittedSteps.{all_added}
 use Rattle.wh_admission.proofs.Repeats.{find_last, new_id, by_case}
 use Rattle.wh_admission.proofs.StaysAccepted.{receipt_is}
@@ -26,7 +26,7 @@ pub record IsKnown (commands : List Accepted) (c : Command) : Type 0 where
   pub accepted : Accepted
   pub found : find (λ (a : Accepted). bytes_eq a.id c.id) commands ≡ Some accepted
   pub good : is_key 40 c.id ≡ true
-  pub same : bytes_eq accepted.kind (command_word c.kind) && bytes_eq accepted.bytes (bytes_kept c.kind c.bytes) ≡ true
+  pub same : bytes_eq accepted.kind (command_kind_word c.kind) && bytes_eq accepted.bytes (kept_bytes c.kind c.bytes) ≡ true
 
 -- ---- it stays known
 
@@ -47,11 +47,11 @@ known_with commands more c known = record {
 }
 
 module _ (limits : Limits) where
-  known_by_content : (commands : List Accepted) (c d : Command) (read : Result Content Refused) → IsKnown commands c → IsKnown (with_content commands d read) c
+  known_by_content : (commands : List Accepted) (c d : Command) (read : Result Content Refusal) → IsKnown commands c → IsKnown (with_content commands d read) c
   known_by_content commands c d (Ok content) known = known_with commands (accepted_as d content ∷ []) c known
   known_by_content commands c d (Err why) known = known
 
-  known_by_answer : (commands : List Accepted) (c d : Command) (a : Result Reply Refused) → IsKnown commands c → IsKnown (after_answer commands d a) c
+  known_by_answer : (commands : List Accepted) (c d : Command) (a : Result Reply Refusal) → IsKnown commands c → IsKnown (after_answer commands d a) c
   known_by_answer commands c d (Ok (Accepts receipt)) known = known_by_content commands c d (content_of d.kind (format_of commands) (current_policy commands) d.bytes) known
   known_by_answer commands c d (Ok (Already receipt)) known = known
   known_by_answer commands c d (Err why) known = known
@@ -72,11 +72,11 @@ module _ (limits : Limits) where
     there = find (λ (a : Accepted). bytes_eq a.id c.id) commands
 
     -- what is read of a new command is never answered as a repeat
-    read_anew : (read : Result Content Refused) (receipt : Receipt) → when_read limits commands c read ≡ Ok (Already receipt) → ⊥
+    read_anew : (read : Result Content Refusal) (receipt : Receipt) → when_read limits commands c read ≡ Ok (Already receipt) → ⊥
     read_anew (Err why) receipt h = cc
     read_anew (Ok content) receipt h = by_number (number_for limits commands content) h
       where
-        by_number : (room : Result ℕ Refused) → answer_with commands c content room ≡ Ok (Already receipt) → ⊥
+        by_number : (room : Result ℕ Refusal) → answer_with commands c content room ≡ Ok (Already receipt) → ⊥
         by_number (Ok number) h = cc
         by_number (Err why) h = cc
 
@@ -91,15 +91,15 @@ module _ (limits : Limits) where
       accepted = a;
       found = is;
       good = good;
-      same = same_bytes a (bytes_eq a.kind (command_word c.kind) && bytes_eq a.bytes (bytes_kept c.kind c.bytes)) _ receipt h;
+      same = same_bytes a (bytes_eq a.kind (command_kind_word c.kind) && bytes_eq a.bytes (kept_bytes c.kind c.bytes)) _ receipt h;
     }
 
-    accepted_known : (read : Result Content Refused) (receipt : Receipt) → is_key 40 c.id ≡ true → there ≡ None → when_read limits commands c read ≡ Ok (Accepts receipt) → IsKnown (with_content commands c read) c
+    accepted_known : (read : Result Content Refusal) (receipt : Receipt) → is_key 40 c.id ≡ true → there ≡ None → when_read limits commands c read ≡ Ok (Accepts receipt) → IsKnown (with_content commands c read) c
     accepted_known (Err why) receipt good new h = absurd cc
     accepted_known (Ok content) receipt good new h =
         let id = (bytes_eq-Decides c.id c.id).1 refl in
-        let kind = (bytes_eq-Decides (command_word c.kind) (command_word c.kind)).1 refl in
-        let bytes = (bytes_eq-Decides (bytes_kept c.kind c.bytes) (bytes_kept c.kind c.bytes)).1 refl in
+        let kind = (bytes_eq-Decides (command_kind_word c.kind) (command_kind_word c.kind)).1 refl in
+        let bytes = (bytes_eq-Decides (kept_bytes c.kind c.bytes) (kept_bytes c.kind c.bytes)).1 refl in
         record {
           accepted = accepted_as c content;
           found = find_last (λ (a : Accepted). bytes_eq a.id c.id) (accepted_as c content) commands new id;
@@ -107,7 +107,7 @@ module _ (limits : Limits) where
           same = rw (kind, bytes) refl;
         }
 
-    pub known_after : (a : Result Reply Refused) → answer limits commands c ≡ a → IsOk a → IsKnown (after_answer commands c a) c
+    pub known_after : (a : Result Reply Refusal) → answer limits commands c ≡ a → IsOk a → IsKnown (after_answer commands c a) c
     known_after (Err why) is ok = absurd cc
     known_after (Ok (Already receipt)) is ok = repeat_known (is_key 40 c.id) there receipt refl refl is
     known_after (Ok (Accepts receipt)) is ok =
@@ -174,13 +174,13 @@ module _ (limits : Limits) where
 
   -- once it was answered, the same command has the receipt
   module _ (commands : List Accepted) (c : Command) where
-    taken : (read : Result Content Refused) (receipt : Receipt) → content_of c.kind (format_of commands) (current_policy commands) c.bytes ≡ read → is_key 40 c.id ≡ true → find (λ (a : Accepted). bytes_eq a.id c.id) commands ≡ None
+    taken : (read : Result Content Refusal) (receipt : Receipt) → content_of c.kind (format_of commands) (current_policy commands) c.bytes ≡ read → is_key 40 c.id ≡ true → find (λ (a : Accepted). bytes_eq a.id c.id) commands ≡ None
         → answer limits commands c ≡ Ok (Accepts receipt) → answer limits (with_content commands c read) c ≡ Ok (Already receipt)
     taken (Err why) receipt told good new is = let none : when_read limits commands c (Err why) ≡ Ok (Accepts receipt) = rw (good, new, told) at is in absurd cc
     taken (Ok content) receipt told good new is =
         let id = (bytes_eq-Decides c.id c.id).1 refl in
-        let kind = (bytes_eq-Decides (command_word c.kind) (command_word c.kind)).1 refl in
-        let bytes = (bytes_eq-Decides (bytes_kept c.kind c.bytes) (bytes_kept c.kind c.bytes)).1 refl in
+        let kind = (bytes_eq-Decides (command_kind_word c.kind) (command_kind_word c.kind)).1 refl in
+        let bytes = (bytes_eq-Decides (kept_bytes c.kind c.bytes) (kept_bytes c.kind c.bytes)).1 refl in
         let there = find_last (λ (a : Accepted). bytes_eq a.id c.id) (accepted_as c content) commands new id in
         let after = commands ++ accepted_as c content ∷ [] in
         let last = placed_last c.id commands (accepted_as c content) new id in
@@ -188,7 +188,7 @@ module _ (limits : Limits) where
         let again : answer limits after c ≡ Ok (Already (receipt_of after (suc (length commands)) content)) = rw (good, there, kind, bytes, last) refl in
         again ∙ ap (λ (r : Receipt). Ok (Already r)) (receipt_is limits commands c content receipt read)
 
-    told_at_once : (a : Result Reply Refused) (reply : Reply) → answer limits commands c ≡ a → a ≡ Ok reply → answer limits (after_answer commands c a) c ≡ Ok (Already (receipt_told reply))
+    told_at_once : (a : Result Reply Refusal) (reply : Reply) → answer limits commands c ≡ a → a ≡ Ok reply → answer limits (after_answer commands c a) c ≡ Ok (Already (receipt_told reply))
     told_at_once (Err why) reply is ok = absurd cc
     told_at_once (Ok (Already receipt)) reply is ok = let same : Already receipt ≡ reply = cc in is ∙ ap (λ (r : Reply). Ok (Already (receipt_told r))) same
     told_at_once (Ok (Accepts receipt)) reply is ok =

@@ -4,7 +4,7 @@ use Rattle.std.specs.Prelude.{IsSome, unwrap_or, option_map}
 use Rattle.std.specs.List.{AllByRecursion}
 use Rattle.std.proofs.lemmas.List.{length-map}
 use Rattle.wh_policy.specs.Names.{fits}
-use Rattle.wh_policy.specs.Policy.{attributes_of, types_of, policy_at}
+use Rattle.wh_policy.specs.Policy.{policy_attributes, policy_types, read_policy}
 use Rattle.wh_policy.specs.Written.{IsSound}
 use Rattle.wh_policy.specs.declared.attribute.Attribute.{Attribute}
 use Rattle.wh_policy.specs.declared.attribute.Dim.{Dim}
@@ -13,9 +13,9 @@ use Rattle.wh_policy.specs.declared.policy.Policy.{Policy}
 use Rattle.wh_policy.proofs.FileLaws.{policies_are_sound}
 use Rattle.wh_batch.proofs.GoodLemmas.{bind_ok}
 use Rattle.wh_history.specs.Accepted.{Accepted, Content, Governs, Describes, Sells, Upgrades, Withdraws, governed, policy_after}
-use Rattle.wh_admission.specs.Admission.{of_file, policy_told}
-use Rattle.wh_admission.specs.declared.command.Refused.{Refused}
-use Rattle.wh_admission.specs.declared.command.Refused.TheVariants.{Unfit}
+use Rattle.wh_admission.specs.Admission.{of_file, judged_policy}
+use Rattle.wh_admission.specs.declared.command.Refusal.{Refusal}
+use Rattle.wh_admission.specs.declared.command.Refusal.TheVariants.{Unfit}
 use Rattle.wh_model.specs.Sound.{GivesPolicy}
 
 -- ---- one that takes the place of another
@@ -24,20 +24,20 @@ file_ok : (o : Result Policy PolicyFault) (policy : Policy) → of_file o ≡ Ok
 file_ok (Ok other) policy h = let e : other ≡ policy = cc in ap Ok e
 file_ok (Err fault) policy h = absurd cc
 
-if_fit : (b : Bool) (read newer : Policy) → cond {A = Result Policy Refused} b (Ok read) (Err Unfit) ≡ Ok newer → (b ≡ true) × (read ≡ newer)
+if_fit : (b : Bool) (read newer : Policy) → cond {A = Result Policy Refusal} b (Ok read) (Err Unfit) ≡ Ok newer → (b ≡ true) × (read ≡ newer)
 if_fit true read newer h = (refl, cc)
 if_fit false read newer h = absurd cc
 
 -- the bytes write it, and it fits
 pub record IsTaken (older : Policy) (bytes : List ℕ) (newer : Policy) : Type 0 where
-  pub written : policy_at bytes ≡ Ok newer
+  pub written : read_policy bytes ≡ Ok newer
   pub fit : fits older newer ≡ true
 
-pub policy_taken : (older : Policy) (bytes : List ℕ) (newer : Policy) → policy_told older bytes ≡ Ok newer → IsTaken older bytes newer
+pub policy_taken : (older : Policy) (bytes : List ℕ) (newer : Policy) → judged_policy older bytes ≡ Ok newer → IsTaken older bytes newer
 policy_taken older bytes newer h =
-    let (read, is, more) = bind_ok (of_file (policy_at bytes)) (λ other. cond (fits older other) (Ok other) (Err Unfit)) newer h in
+    let (read, is, more) = bind_ok (of_file (read_policy bytes)) (λ other. cond (fits older other) (Ok other) (Err Unfit)) newer h in
     let (fit, same) = if_fit (fits older read) read newer more in
-    rw (← same) (record { written = file_ok (policy_at bytes) read is; fit = fit })
+    rw (← same) (record { written = file_ok (read_policy bytes) read is; fit = fit })
 
 -- ---- the one in force
 
@@ -54,12 +54,12 @@ still_governed o (Withdraws lines) some = some
 
 -- up to six attributes of a dimension
 abbrev pub HasSix : Dim → Option Policy → Type 0
-HasSix dim o = length (unwrap_or (option_map (λ policy. types_of policy dim) o) []) ≤ 6
+HasSix dim o = length (unwrap_or (option_map (λ policy. policy_types policy dim) o) []) ≤ 6
 
 pub still_six : (dim : Dim) (o : Option Policy) (kind bytes : List ℕ) (content : Content) → GivesPolicy kind bytes content → HasSix dim o → HasSix dim (governed o content)
 still_six dim o kind bytes (Governs policy) gives six =
     let sound = policies_are_sound bytes policy gives.1 in
-    omega (arith, length-map (attributes_of policy dim) (λ (a : Attribute). a.kind), (sound.attributes dim).few)
+    omega (arith, length-map (policy_attributes policy dim) (λ (a : Attribute). a.kind), (sound.attributes dim).few)
 still_six dim o kind bytes (Describes dimension records) gives six = six
 still_six dim o kind bytes (Sells sales) gives six = six
 still_six dim o kind bytes Upgrades gives six = six

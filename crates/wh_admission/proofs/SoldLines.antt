@@ -14,7 +14,7 @@ use Rattle.wh_admission.specs.Admission.{content_of, current_policy, answer}
 use Rattle.wh_admission.specs.Answers.{KeepsToChanges, is_missing, is_sold, IsAnswer, SoldLinesAreRefused, WithdrawnLinesAreNotSold, WithdrawnLinesAreRefused}
 use Rattle.wh_admission.specs.declared.command.Command.{Command}
 use Rattle.wh_admission.specs.declared.command.Receipt.{Receipt}
-use Rattle.wh_admission.specs.declared.command.Refused.{Refused}
+use Rattle.wh_admission.specs.declared.command.Refusal.{Refusal}
 use Rattle.wh_admission.specs.declared.command.Reply.{Reply}
 use Rattle.wh_admission.specs.declared.command.Reply.TheVariants.{Accepted as Accepts}
 use Rattle.wh_admission.proofs.AnswersByCases.{answer_is_by_cases}
@@ -22,7 +22,7 @@ use Rattle.wh_admission.proofs.CheckedTables.{ok_is}
 
 module _ (limits : Limits) (commands : List Accepted) (c : Command) (content : Content) (says : content_of c.kind (format_of commands) (current_policy commands) c.bytes ≡ Ok content) where
   -- what is accepted has passed the tests of lines
-  passed : (receipt : Receipt) (said : Result Reply Refused) → IsAnswer limits commands c said → said ≡ Ok (Accepts receipt) → KeepsToChanges limits commands c content
+  passed : (receipt : Receipt) (said : Result Reply Refusal) → IsAnswer limits commands c said → said ≡ Ok (Accepts receipt) → KeepsToChanges limits commands c content
   passed receipt _ (IsAnswer.accepted read keeps within) is = subst (KeepsToChanges limits commands c) (ok_is read content (sym keeps.lines.withdraws.fits.counted.says.read ∙ says)) keeps
   passed receipt _ _ is = absurd cc
 

@@ -8,7 +8,7 @@ use Rattle.std.proofs.lemmas.Slice.Eq.{bytes_eq-Decides}
 use Rattle.wh_history.proofs.Basics.{or_true, or_none, first_or}
 use Rattle.std.proofs.lemmas.Grind.{flat_map-append}
 use Rattle.std.proofs.lemmas.List.{length-append, length-map, map-append}
-use Rattle.wh_policy.specs.Policy.{attributes_of, types_of}
+use Rattle.wh_policy.specs.Policy.{policy_attributes, policy_types}
 use Rattle.wh_policy.specs.declared.attribute.Attribute.{Attribute}
 use Rattle.wh_policy.specs.declared.attribute.Dim.{Dim}
 use Rattle.wh_policy.specs.declared.attribute.Dim.TheVariants.{Product, Store, Customer}
@@ -28,8 +28,8 @@ use Rattle.wh_history.proofs.Joins.{all_append}
 use Rattle.wh_history.proofs.Untouched.{described-last}
 use Rattle.wh_rows.specs.Questions.{gives_policy}
 use Rattle.wh_rows.specs.Types.{is_key, is_kind}
-use Rattle.wh_batch.specs.Kind.{command_word}
-use Rattle.wh_admission.specs.Admission.{bytes_kept, upgrades_again, of_batch, records_told, sales_told, voids_told, policy_told, content_of, current_policy, accepted_as, receipt_of, changes_in, first_number, first_line_there, first_line_missing, number_past_lines, number_past_voids, number_for, answer_with, when_read, answer, with_content, after_answer, accepted_after, AcceptedListsStaySound}
+use Rattle.wh_batch.specs.Kind.{command_kind_word}
+use Rattle.wh_admission.specs.Admission.{kept_bytes, upgrades_again, of_batch, judged_records, judged_sales, judged_voids, judged_policy, content_of, current_policy, accepted_as, receipt_of, changes_in, first_number, first_line_there, first_line_missing, number_past_lines, number_past_voids, number_for, answer_with, when_read, answer, with_content, after_answer, accepted_after, AcceptedListsStaySound}
 use Rattle.wh_model.proofs.Formatted.{format_before}
 use Rattle.wh_model.specs.Sound.{IsGoodRecord, IsGoodSale, same_line, same_void, is_sold_line, changes_kept, GivesPolicy, IsAccepted}
 use Rattle.wh_admission.specs.declared.command.Command.{Command}
@@ -38,8 +38,8 @@ use Rattle.wh_batch.specs.declared.kind.CommandKind.TheVariants.{Batch, Migratio
 use Rattle.wh_admission.specs.declared.command.Receipt.{Receipt}
 use Rattle.wh_admission.specs.declared.command.Reply.{Reply}
 use Rattle.wh_admission.specs.declared.command.Reply.TheVariants.{Accepted as Accepts, Already}
-use Rattle.wh_admission.specs.declared.command.Refused.{Refused}
-use Rattle.wh_admission.specs.declared.command.Refused.TheVariants.{Upgraded, NoLine, Full}
+use Rattle.wh_admission.specs.declared.command.Refusal.{Refusal}
+use Rattle.wh_admission.specs.declared.command.Refusal.TheVariants.{Upgraded, NoLine, Full}
 use Rattle.wh_admission.specs.declared.command.Limit.TheVariants.{Commands, Changes, Facts}
 use Rattle.wh_admission.proofs.Migrated.{HasSix, policy_taken, policy_with, still_governed, still_six}
 use Rattle.wh_admission.proofs.Repeats.{new_id}
@@ -250,11 +250,11 @@ module _ (limits : Limits) (commands : List Accepted) (c : Accepted) (accepted :
 -- ---- the answer's cases
 
 -- up to six attributes of the policy in force
-in_force_six : (dim : Dim) (o : Option Policy) (other : Policy) → IsSome o → length (unwrap_or (option_map (λ policy. types_of policy dim) o) []) ≤ 6 → length (attributes_of (unwrap_or o other) dim) ≤ 6
+in_force_six : (dim : Dim) (o : Option Policy) (other : Policy) → IsSome o → length (unwrap_or (option_map (λ policy. policy_types policy dim) o) []) ≤ 6 → length (policy_attributes (unwrap_or o other) dim) ≤ 6
 in_force_six dim None other some six = absurd cc
-in_force_six dim (Some policy) other some six = omega (arith, length-map (attributes_of policy dim) (λ (a : Attribute). a.kind))
+in_force_six dim (Some policy) other some six = omega (arith, length-map (policy_attributes policy dim) (λ (a : Attribute). a.kind))
 
-kind_known : (kind : CommandKind) → is_kind (command_word kind) ≡ true
+kind_known : (kind : CommandKind) → is_kind (command_kind_word kind) ≡ true
 kind_known (Batch (Dimension Product)) = refl
 kind_known (Batch (Dimension Store)) = refl
 kind_known (Batch (Dimension Customer)) = refl
@@ -291,7 +291,7 @@ module _ (limits : Limits) (commands : List Accepted) (content : Content) (next 
       room_after_voids (leb-false _ _ few) (first_line_missing (standing commands) 1 (withdrawn_by content)) refl last
 
 module _ (limits : Limits) (commands : List Accepted) (c : Command) (content : Content) (receipt : Receipt) where
-  pub was_numbered : (o : Result ℕ Refused) → answer_with commands c content o ≡ Ok (Accepts receipt) → (next : ℕ) × (o ≡ Ok next) × (receipt_of (commands ++ accepted_as c content ∷ []) next content ≡ receipt)
+  pub was_numbered : (o : Result ℕ Refusal) → answer_with commands c content o ≡ Ok (Accepts receipt) → (next : ℕ) × (o ≡ Ok next) × (receipt_of (commands ++ accepted_as c content ∷ []) next content ≡ receipt)
   was_numbered (Ok next) h = (next, refl, cc)
   was_numbered (Err why) h = absurd cc
 
@@ -308,7 +308,7 @@ batch_ok : {A : Type 0} (o : Result A BatchFault) (x : A) → of_batch o ≡ Ok 
 batch_ok (Ok y) x h = let e : y ≡ x = cc in ap Ok e
 batch_ok (Err fault) x h = absurd cc
 
-no_policy : (dim : Dim) → gives_policy (command_word (Batch (Dimension dim))) ≡ false
+no_policy : (dim : Dim) → gives_policy (command_kind_word (Batch (Dimension dim))) ≡ false
 no_policy Product = refl
 no_policy Store = refl
 no_policy Customer = refl
@@ -318,11 +318,11 @@ pub record IsWell (format : Format) (word bytes : List ℕ) (content : Content) 
   pub good : IsGoodContent format content
   pub gives : GivesPolicy word bytes content
 
-well : (kind : CommandKind) (format : Format) (policy : Policy) (bytes : List ℕ) (content : Content) → ((dim : Dim) → length (attributes_of policy dim) ≤ 6) → content_of kind format policy bytes ≡ Ok content
-    → IsWell format (command_word kind) (bytes_kept kind bytes) content
+well : (kind : CommandKind) (format : Format) (policy : Policy) (bytes : List ℕ) (content : Content) → ((dim : Dim) → length (policy_attributes policy dim) ≤ 6) → content_of kind format policy bytes ≡ Ok content
+    → IsWell format (command_kind_word kind) (kept_bytes kind bytes) content
 unfolding IsDistinct
 well (Batch (Dimension dim)) format policy bytes content six told =
-    let (records, given, last) = bind_ok (records_told dim policy bytes) (λ records. Ok (Describes dim records)) content told in
+    let (records, given, last) = bind_ok (judged_records dim policy bytes) (λ records. Ok (Describes dim records)) content told in
     let read = batch_ok (dimension_records dim policy bytes) records given in
     let e : Describes dim records ≡ content = cc in
     let good = good_records dim policy bytes records (six dim) read in
@@ -340,7 +340,7 @@ well (Batch (Dimension dim)) format policy bytes content six told =
       gives = no_policy dim;
     })
 well (Batch Sales) format policy bytes content six told =
-    let (sales, given, last) = bind_ok (sales_told format policy bytes) (λ sales. Ok (Sells sales)) content told in
+    let (sales, given, last) = bind_ok (judged_sales format policy bytes) (λ sales. Ok (Sells sales)) content told in
     let read = batch_ok (sale_records policy format bytes) sales given in
     let e : Sells sales ≡ content = cc in
     rw (← e) (record {
@@ -357,7 +357,7 @@ well (Batch Sales) format policy bytes content six told =
       gives = refl;
     })
 well (Batch Voids) format policy bytes content six told =
-    let (voids, given, last) = bind_ok (voids_told format bytes) (λ voids. Ok (Withdraws voids)) content told in
+    let (voids, given, last) = bind_ok (judged_voids format bytes) (λ voids. Ok (Withdraws voids)) content told in
     let read = batch_ok (void_records format bytes) voids given in
     let e : Withdraws voids ≡ content = cc in
     rw (← e) (record {
@@ -374,7 +374,7 @@ well (Batch Voids) format policy bytes content six told =
       gives = refl;
     })
 well Migration format policy bytes content six told =
-    let (newer, read, last) = bind_ok (policy_told policy bytes) (λ newer. Ok (Governs newer)) content told in
+    let (newer, read, last) = bind_ok (judged_policy policy bytes) (λ newer. Ok (Governs newer)) content told in
     let e : Governs newer ≡ content = cc in
     let taken = policy_taken policy bytes newer read in
     rw (← e) (record {
@@ -386,10 +386,10 @@ well Upgrade format policy bytes content six told =
     rw (← e) (record { good = record { few = omega arith; few_sales = omega arith; records = λ other. tt; sales = tt; lines = tt; undiscounted = λ _. tt; voids_once = tt; unwithdrawn = λ _. refl }; gives = refl })
 
 module _ (limits : Limits) (commands : List Accepted) (c : Command) (accepted : IsAccepted limits commands) where
-  pub content_well : (content : Content) → content_of c.kind (format_of commands) (current_policy commands) c.bytes ≡ Ok content → IsWell (format_of commands) (command_word c.kind) (bytes_kept c.kind c.bytes) content
+  pub content_well : (content : Content) → content_of c.kind (format_of commands) (current_policy commands) c.bytes ≡ Ok content → IsWell (format_of commands) (command_kind_word c.kind) (kept_bytes c.kind c.bytes) content
   content_well content told = well c.kind (format_of commands) (current_policy commands) c.bytes content (λ dim. in_force_six dim (policy_after None commands) _ accepted.governed (accepted.six dim)) told
 
-  by_content : (read : Result Content Refused) (receipt : Receipt) → content_of c.kind (format_of commands) (current_policy commands) c.bytes ≡ read → is_key 40 c.id ≡ true → find (λ (a : Accepted). bytes_eq a.id c.id) commands ≡ None
+  by_content : (read : Result Content Refusal) (receipt : Receipt) → content_of c.kind (format_of commands) (current_policy commands) c.bytes ≡ read → is_key 40 c.id ≡ true → find (λ (a : Accepted). bytes_eq a.id c.id) commands ≡ None
       → when_read limits commands c read ≡ Ok (Accepts receipt) → IsAccepted limits (with_content commands c read)
   by_content (Err why) receipt told good new h = accepted
   by_content (Ok content) receipt told good new h =
@@ -397,7 +397,7 @@ module _ (limits : Limits) (commands : List Accepted) (c : Command) (accepted : 
       let read = content_well content told in
       command_added limits commands (accepted_as c content) accepted read.good read.gives good (kind_known c.kind) new room.commands_left room.changes_left room.facts_left (all_new (sold commands) 1 (sold_by content) room.lines_new) (all_stand_there (standing commands) (withdrawn_by content) (none_first_passes (λ v. not (is_sold_line (standing commands) v)) 1 (withdrawn_by content) room.lines_stand))
 
-  by_answer : (a : Result Reply Refused) → answer limits commands c ≡ a → IsAccepted limits (after_answer commands c a)
+  by_answer : (a : Result Reply Refusal) → answer limits commands c ≡ a → IsAccepted limits (after_answer commands c a)
   by_answer (Ok (Already receipt)) said = accepted
   by_answer (Err why) said = accepted
   by_answer (Ok (Accepts receipt)) said =

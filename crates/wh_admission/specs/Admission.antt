@@ -3,14 +3,14 @@ use Rattle.std.specs.Prelude.{◌≡◌, ⊤, Bool, true, false, not, ℕ, suc, 
 use Rattle.std.specs.List.{list_any}
 use Rattle.wh_day.specs.Reading.{◌>>=◌}
 use Rattle.wh_policy.specs.Names.{fits}
-use Rattle.wh_policy.specs.Policy.{trial_policy, policy_at}
+use Rattle.wh_policy.specs.Policy.{trial_policy, read_policy}
 use Rattle.wh_policy.specs.declared.attribute.Dim.{Dim}
 use Rattle.wh_policy.specs.declared.fault.PolicyFault.{PolicyFault}
 use Rattle.wh_policy.specs.declared.policy.Policy.{Policy}
 use Rattle.wh_policy.specs.declared.record.DimensionRecord.{DimensionRecord}
 use Rattle.wh_policy.specs.declared.record.SaleRecord.{SaleRecord}
 use Rattle.wh_policy.specs.declared.record.VoidRecord.{VoidRecord}
-use Rattle.wh_batch.specs.Kind.{command_word}
+use Rattle.wh_batch.specs.Kind.{command_kind_word}
 use Rattle.wh_batch.specs.Layouts.{dimension_records, sale_records, void_records}
 use Rattle.wh_batch.specs.declared.kind.Kind.TheVariants.{Dimension, Sales, Voids}
 use Rattle.wh_policy.specs.declared.format.Format.{Format}
@@ -30,8 +30,8 @@ use Rattle.wh_batch.specs.declared.kind.CommandKind.TheVariants.{Batch, Migratio
 use Rattle.wh_admission.specs.declared.command.Receipt.{Receipt}
 use Rattle.wh_admission.specs.declared.command.Reply.{Reply}
 use Rattle.wh_admission.specs.declared.command.Reply.TheVariants.{Accepted as Accepts, Already}
-use Rattle.wh_admission.specs.declared.command.Refused.{Refused}
-use Rattle.wh_admission.specs.declared.command.Refused.TheVariants.{BadId, Reused, Batch as BadBatch, Policy as BadPolicy, Unfit, Upgraded, LineThere, NoLine, Full}
+use Rattle.wh_admission.specs.declared.command.Refusal.{Refusal}
+use Rattle.wh_admission.specs.declared.command.Refusal.TheVariants.{BadId, Reused, Batch as BadBatch, Policy as BadPolicy, Unfit, Upgraded, LineThere, NoLine, Full}
 use Rattle.wh_admission.specs.declared.command.Limit.TheVariants.{Commands, Changes, Facts}
 
 -- the policy in force; a list of accepted commands begins with a making, so it has one
@@ -39,46 +39,46 @@ abbrev pub current_policy : List Accepted → Policy
 current_policy commands = unwrap_or (policy_after None commands) trial_policy
 
 -- what was read of a batch, or its first fault
-abbrev pub of_batch : {A : Type 0} → Result A BatchFault → Result A Refused
+abbrev pub of_batch : {A : Type 0} → Result A BatchFault → Result A Refusal
 of_batch (Ok read) = Ok read
 of_batch (Err fault) = Err (BadBatch fault)
 
-abbrev pub records_told : Dim → Policy → List ℕ → Result (List DimensionRecord) Refused
-records_told dim policy bytes = of_batch (dimension_records dim policy bytes)
+abbrev pub judged_records : Dim → Policy → List ℕ → Result (List DimensionRecord) Refusal
+judged_records dim policy bytes = of_batch (dimension_records dim policy bytes)
 
-abbrev pub sales_told : Format → Policy → List ℕ → Result (List SaleRecord) Refused
-sales_told format policy bytes = of_batch (sale_records policy format bytes)
+abbrev pub judged_sales : Format → Policy → List ℕ → Result (List SaleRecord) Refusal
+judged_sales format policy bytes = of_batch (sale_records policy format bytes)
 
-abbrev pub voids_told : Format → List ℕ → Result (List VoidRecord) Refused
-voids_told format bytes = of_batch (void_records format bytes)
+abbrev pub judged_voids : Format → List ℕ → Result (List VoidRecord) Refusal
+judged_voids format bytes = of_batch (void_records format bytes)
 
 -- what was read of a policy file, or its first fault
-abbrev pub of_file : Result Policy PolicyFault → Result Policy Refused
+abbrev pub of_file : Result Policy PolicyFault → Result Policy Refusal
 of_file (Ok policy) = Ok policy
 of_file (Err fault) = Err (BadPolicy fault)
 
 -- the policy that takes the place of another: the one that the bytes write, where it fits
-abbrev pub policy_told : Policy → List ℕ → Result Policy Refused
-policy_told older bytes = of_file (policy_at bytes) >>= λ newer. if fits older newer then Ok newer else Err Unfit
+abbrev pub judged_policy : Policy → List ℕ → Result Policy Refusal
+judged_policy older bytes = of_file (read_policy bytes) >>= λ newer. if fits older newer then Ok newer else Err Unfit
 
 -- what the bytes of a command say in a format and under a policy, or why they are refused
-abbrev pub content_of : CommandKind → Format → Policy → List ℕ → Result Content Refused
-content_of (Batch (Dimension dim)) format policy bytes = records_told dim policy bytes >>= λ records. Ok (Describes dim records)
-content_of (Batch Sales) format policy bytes = sales_told format policy bytes >>= λ sales. Ok (Sells sales)
-content_of (Batch Voids) format policy bytes = voids_told format bytes >>= λ lines. Ok (Withdraws lines)
-content_of Migration format policy bytes = policy_told policy bytes >>= λ newer. Ok (Governs newer)
+abbrev pub content_of : CommandKind → Format → Policy → List ℕ → Result Content Refusal
+content_of (Batch (Dimension dim)) format policy bytes = judged_records dim policy bytes >>= λ records. Ok (Describes dim records)
+content_of (Batch Sales) format policy bytes = judged_sales format policy bytes >>= λ sales. Ok (Sells sales)
+content_of (Batch Voids) format policy bytes = judged_voids format bytes >>= λ lines. Ok (Withdraws lines)
+content_of Migration format policy bytes = judged_policy policy bytes >>= λ newer. Ok (Governs newer)
 content_of Upgrade format policy bytes = Ok Upgrades
 
 -- what is kept of the bytes of a command: an upgrade has none
-abbrev pub bytes_kept : CommandKind → List ℕ → List ℕ
-bytes_kept (Batch kind) bytes = bytes
-bytes_kept Migration bytes = bytes
-bytes_kept Upgrade bytes = []
+abbrev pub kept_bytes : CommandKind → List ℕ → List ℕ
+kept_bytes (Batch kind) bytes = bytes
+kept_bytes Migration bytes = bytes
+kept_bytes Upgrade bytes = []
 
 -- the policy that is in force once such a command is accepted: a migration brings its own, and all others leave the one that is
-abbrev pub policy_brought : CommandKind → Policy → List ℕ → Result Policy Refused
+abbrev pub policy_brought : CommandKind → Policy → List ℕ → Result Policy Refusal
 policy_brought (Batch kind) policy bytes = Ok policy
-policy_brought Migration policy bytes = policy_told policy bytes
+policy_brought Migration policy bytes = judged_policy policy bytes
 policy_brought Upgrade policy bytes = Ok policy
 
 -- and the format
@@ -89,7 +89,7 @@ format_brought Upgrade format = Two
 
 -- a command with what it says
 abbrev pub accepted_as : Command → Content → Accepted
-accepted_as c content = record { id = c.id; kind = command_word c.kind; bytes = bytes_kept c.kind c.bytes; content = content }
+accepted_as c content = record { id = c.id; kind = command_kind_word c.kind; bytes = kept_bytes c.kind c.bytes; content = content }
 
 -- the receipt of a command of the list
 abbrev pub receipt_of : List Accepted → ℕ → Content → Receipt
@@ -117,7 +117,7 @@ changes_in Upgrades = 0
 changes_in (Withdraws lines) = 0
 
 -- the number of the next command where this content has no line that is there
-abbrev pub number_past_lines : Limits → List Accepted → Content → Option ℕ → Result ℕ Refused
+abbrev pub number_past_lines : Limits → List Accepted → Content → Option ℕ → Result ℕ Refusal
 number_past_lines limits commands content (Some number) = Err (LineThere number)
 number_past_lines limits commands content None =
     if nat_lt limits.changes (changes_kept commands + changes_in content) then Err (Full Changes)
@@ -125,7 +125,7 @@ number_past_lines limits commands content None =
     else Ok (suc (length commands))
 
 -- where each line that it withdraws stands
-abbrev pub number_past_voids : Limits → List Accepted → Content → Option ℕ → Result ℕ Refused
+abbrev pub number_past_voids : Limits → List Accepted → Content → Option ℕ → Result ℕ Refusal
 number_past_voids limits commands content (Some number) = Err (NoLine number)
 number_past_voids limits commands content None = number_past_lines limits commands content (first_line_there (sold commands) 1 (sold_by content))
 
@@ -138,39 +138,39 @@ upgrades_again commands Upgrades = is_two (format_of commands)
 upgrades_again commands (Withdraws lines) = false
 
 -- the number of the next command where there is room for it and for this content, it is no second upgrade, each line that it withdraws stands, and no line that it sells is there
-abbrev pub number_for : Limits → List Accepted → Content → Result ℕ Refused
+abbrev pub number_for : Limits → List Accepted → Content → Result ℕ Refusal
 number_for limits commands content =
     if nat_le limits.commands (length commands) then Err (Full Commands)
     else if upgrades_again commands content then Err Upgraded
     else number_past_voids limits commands content (first_line_missing (standing commands) 1 (withdrawn_by content))
 
 -- the answer with its number, or why there is none
-abbrev pub answer_with : List Accepted → Command → Content → Result ℕ Refused → Result Reply Refused
+abbrev pub answer_with : List Accepted → Command → Content → Result ℕ Refusal → Result Reply Refusal
 answer_with commands c content (Ok number) = Ok (Accepts (receipt_of (commands ++ accepted_as c content ∷ []) number content))
 answer_with commands c content (Err why) = Err why
 
-abbrev pub when_read : Limits → List Accepted → Command → Result Content Refused → Result Reply Refused
+abbrev pub when_read : Limits → List Accepted → Command → Result Content Refusal → Result Reply Refusal
 when_read limits commands c (Err why) = Err why
 when_read limits commands c (Ok content) = answer_with commands c content (number_for limits commands content)
 
 -- a command whose id is known comes again where kind and bytes are the same too, and has the receipt that was kept
-abbrev pub receipt_again : (kind bytes : List ℕ) → Command → Receipt → Result Receipt Refused
-receipt_again kind bytes c kept = if bytes_eq kind (command_word c.kind) && bytes_eq bytes (bytes_kept c.kind c.bytes) then Ok kept else Err Reused
+abbrev pub receipt_again : (kind bytes : List ℕ) → Command → Receipt → Result Receipt Refusal
+receipt_again kind bytes c kept = if bytes_eq kind (command_kind_word c.kind) && bytes_eq bytes (kept_bytes c.kind c.bytes) then Ok kept else Err Reused
 
 -- and the answer with it
-abbrev pub already : Result Receipt Refused → Result Reply Refused
+abbrev pub already : Result Receipt Refusal → Result Reply Refusal
 already (Ok receipt) = Ok (Already receipt)
 already (Err why) = Err why
 
-abbrev pub when_known : List Accepted → Command → Accepted → Result Reply Refused
+abbrev pub when_known : List Accepted → Command → Accepted → Result Reply Refusal
 when_known commands c a = already (receipt_again a.kind a.bytes c (receipt_of commands (place bytes_eq c.id (map (λ (b : Accepted). b.id) commands)) a.content))
 
-abbrev pub by_id : Limits → List Accepted → Command → Option Accepted → Result Reply Refused
+abbrev pub by_id : Limits → List Accepted → Command → Option Accepted → Result Reply Refusal
 by_id limits commands c (Some a) = when_known commands c a
 by_id limits commands c None = when_read limits commands c (content_of c.kind (format_of commands) (current_policy commands) c.bytes)
 
 -- the first case that applies
-abbrev pub answer : Limits → List Accepted → Command → Result Reply Refused
+abbrev pub answer : Limits → List Accepted → Command → Result Reply Refusal
 answer limits commands c = if is_key 40 c.id then by_id limits commands c (find (λ (a : Accepted). bytes_eq a.id c.id) commands) else Err BadId
 
 -- the receipt of an answer
@@ -179,12 +179,12 @@ receipt_told (Accepts receipt) = receipt
 receipt_told (Already receipt) = receipt
 
 -- the list with what was read of a command
-abbrev pub with_content : List Accepted → Command → Result Content Refused → List Accepted
+abbrev pub with_content : List Accepted → Command → Result Content Refusal → List Accepted
 with_content commands c (Ok content) = commands ++ accepted_as c content ∷ []
 with_content commands c (Err why) = commands
 
 -- the list after a command: with it where it is accepted
-abbrev pub after_answer : List Accepted → Command → Result Reply Refused → List Accepted
+abbrev pub after_answer : List Accepted → Command → Result Reply Refusal → List Accepted
 after_answer commands c (Ok (Accepts receipt)) = with_content commands c (content_of c.kind (format_of commands) (current_policy commands) c.bytes)
 after_answer commands c (Ok (Already receipt)) = commands
 after_answer commands c (Err why) = commands
@@ -217,7 +217,7 @@ pub record AreAdmitted (limits : Limits) (commands : List Accepted) : Type 0 whe
   pub limited : are_limits limits ≡ true
   pub policy : Policy
   pub bytes : List ℕ
-  pub written : policy_at bytes ≡ Ok policy
+  pub written : read_policy bytes ≡ Ok policy
   pub sent : List Command
   pub admitted : commands ≡ accepted_after_all limits (making_of policy bytes ∷ []) sent
 
@@ -228,7 +228,7 @@ AdmittedListsAreSound = (limits : Limits) (commands : List Accepted) → AreAdmi
 -- what the command says is what its kind and bytes give in the format and under the policy that were in force before it
 pub record IsOfItsBytes (before : List Accepted) (a : Accepted) : Type 0 where
   pub kind : CommandKind
-  pub kind_is : a.kind ≡ command_word kind
+  pub kind_is : a.kind ≡ command_kind_word kind
   pub content_is : content_of kind (format_of before) (current_policy before) a.bytes ≡ Ok a.content
 
 -- so it is of each command that came after these

@@ -3,19 +3,19 @@ use Rattle.std.specs.Prelude.{◌≡◌, ◌≢◌, ◌⊎◌, ◌<◌, ◌≤�
 use Rattle.std.specs.List.{list_any, AllByRecursion, IsDistinct}
 use Rattle.wh_policy.specs.declared.record.SaleRecord.{SaleRecord}
 use Rattle.wh_policy.specs.declared.record.VoidRecord.{VoidRecord}
-use Rattle.wh_batch.specs.Kind.{command_word}
+use Rattle.wh_batch.specs.Kind.{command_kind_word}
 use Rattle.wh_history.specs.Accepted.{Accepted, Content, Sells, Withdraws, sold, sold_by, standing, withdrawn, withdrawn_by, withdraws_line, format_of}
 use Rattle.wh_history.specs.Keys.{at_place}
 use Rattle.wh_history.specs.Tables.{Limits}
 use Rattle.wh_model.specs.Sound.{IsAccepted, changes_kept, same_line, is_sold_line}
 use Rattle.wh_rows.specs.Types.{is_key}
-use Rattle.wh_admission.specs.Admission.{current_policy, content_of, accepted_as, receipt_of, changes_in, answer, bytes_kept, upgrades_again}
+use Rattle.wh_admission.specs.Admission.{current_policy, content_of, accepted_as, receipt_of, changes_in, answer, kept_bytes, upgrades_again}
 use Rattle.wh_admission.specs.declared.command.Command.{Command}
 use Rattle.wh_admission.specs.declared.command.Receipt.{Receipt}
 use Rattle.wh_admission.specs.declared.command.Reply.{Reply}
 use Rattle.wh_admission.specs.declared.command.Reply.TheVariants.{Accepted as Accepts, Already}
-use Rattle.wh_admission.specs.declared.command.Refused.{Refused}
-use Rattle.wh_admission.specs.declared.command.Refused.TheVariants.{BadId, Reused, Upgraded, LineThere, NoLine, Full}
+use Rattle.wh_admission.specs.declared.command.Refusal.{Refusal}
+use Rattle.wh_admission.specs.declared.command.Refusal.TheVariants.{BadId, Reused, Upgraded, LineThere, NoLine, Full}
 use Rattle.wh_admission.specs.declared.command.Limit.TheVariants.{Commands, Changes, Facts}
 
 -- the id is a good one, and an accepted command with this number has it
@@ -26,8 +26,8 @@ pub record HasIdOf (commands : List Accepted) (c : Command) (number : ℕ) (a : 
 
 -- an accepted command has this one's kind and bytes
 pub record IsAlike (a : Accepted) (c : Command) : Type 0 where
-  pub kind : a.kind ≡ command_word c.kind
-  pub bytes : a.bytes ≡ bytes_kept c.kind c.bytes
+  pub kind : a.kind ≡ command_kind_word c.kind
+  pub bytes : a.bytes ≡ kept_bytes c.kind c.bytes
 
 -- the id is a good one, and no accepted command has it
 pub record IsNew (commands : List Accepted) (c : Command) : Type 0 where
@@ -80,11 +80,11 @@ pub record IsFirst {X : Type 0} (test : X → Bool) (xs : List X) (number : ℕ)
   pub before : AllByRecursion (λ x. test x ≡ false) (take (number - 1) xs)
 
 -- The answer to a command after these.
-pub data IsAnswer (limits : Limits) (commands : List Accepted) (c : Command) : Result Reply Refused → Type 0 where
+pub data IsAnswer (limits : Limits) (commands : List Accepted) (c : Command) : Result Reply Refusal → Type 0 where
   bad_id : is_key 40 c.id ≡ false → IsAnswer limits commands c (Err BadId)
   already : (number : ℕ) (a : Accepted) → HasIdOf commands c number a → IsAlike a c → IsAnswer limits commands c (Ok (Already (receipt_of commands number a.content)))
   reused : (number : ℕ) (a : Accepted) → HasIdOf commands c number a → ¬ IsAlike a c → IsAnswer limits commands c (Err Reused)
-  faulty : (why : Refused) → IsNew commands c → content_of c.kind (format_of commands) (current_policy commands) c.bytes ≡ Err why → IsAnswer limits commands c (Err why)
+  faulty : (why : Refusal) → IsNew commands c → content_of c.kind (format_of commands) (current_policy commands) c.bytes ≡ Err why → IsAnswer limits commands c (Err why)
   commands_full : (content : Content) → Says commands c content → limits.commands ≤ length commands → IsAnswer limits commands c (Err (Full Commands))
   upgraded : (content : Content) → MayBeCounted limits commands c content → upgrades_again commands content ≡ true → IsAnswer limits commands c (Err Upgraded)
   no_line : (content : Content) (number : ℕ) → FitsFormat limits commands c content → IsFirst (is_missing commands) (withdrawn_by content) number → IsAnswer limits commands c (Err (NoLine number))
@@ -100,7 +100,7 @@ AnswerIsByCases = (limits : Limits) (commands : List Accepted) (c : Command) →
 
 -- And where no two accepted commands have one id, there is no other.
 abbrev pub AnswersAreOne : Type 0
-AnswersAreOne = (limits : Limits) (commands : List Accepted) (c : Command) (said : Result Reply Refused) → IsDistinct bytes_eq (map (λ (a : Accepted). a.id) commands) → IsAnswer limits commands c said → said ≡ answer limits commands c
+AnswersAreOne = (limits : Limits) (commands : List Accepted) (c : Command) (said : Result Reply Refusal) → IsDistinct bytes_eq (map (λ (a : Accepted). a.id) commands) → IsAnswer limits commands c said → said ≡ answer limits commands c
 
 -- admission does not accept the command
 abbrev pub IsNotAccepted : Limits → List Accepted → Command → Type 0

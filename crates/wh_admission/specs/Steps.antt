@@ -1,8 +1,8 @@
 -- Admission step by step: a list was admitted where each command comes after those before it.
 use Rattle.std.specs.Prelude.{◌≡◌, ⊤, true, ℕ, suc, List, [], ◌∷◌, ◌++◌, length, find, Some, None, bytes_eq, Ok}
-use Rattle.wh_policy.specs.Policy.{policy_at}
+use Rattle.wh_policy.specs.Policy.{read_policy}
 use Rattle.wh_policy.specs.declared.policy.Policy.{Policy}
-use Rattle.wh_batch.specs.Kind.{command_word}
+use Rattle.wh_batch.specs.Kind.{command_kind_word}
 use Rattle.wh_batch.specs.declared.kind.CommandKind.{CommandKind}
 use Rattle.wh_history.specs.Accepted.{Accepted, format_of}
 use Rattle.wh_history.specs.Tables.{Limits}
@@ -11,16 +11,16 @@ use Rattle.wh_rows.specs.Limits.{are_limits}
 use Rattle.wh_rows.specs.declared.rows.CommandRow.{CommandRow}
 use Rattle.wh_model.specs.Sound.{making_of}
 use Rattle.wh_rows.specs.Types.{is_key}
-use Rattle.wh_admission.specs.Admission.{current_policy, content_of, bytes_kept, number_for, AreAdmitted}
+use Rattle.wh_admission.specs.Admission.{current_policy, content_of, kept_bytes, number_for, AreAdmitted}
 
 -- The command is one that is accepted after these: its id is good and new, it says what its kind and bytes give in the format and under the policy in force, it has no other bytes than are kept, and there is room for it.
 pub record ComesAfter (limits : Limits) (before : List Accepted) (a : Accepted) : Type 0 where
   pub kind : CommandKind
-  pub kind_is : a.kind ≡ command_word kind
+  pub kind_is : a.kind ≡ command_kind_word kind
   pub good : is_key 40 a.id ≡ true
   pub new : find (λ (b : Accepted). bytes_eq b.id a.id) before ≡ None
   pub read : content_of kind (format_of before) (current_policy before) a.bytes ≡ Ok a.content
-  pub kept : bytes_kept kind a.bytes ≡ a.bytes
+  pub kept : kept_bytes kind a.bytes ≡ a.bytes
   pub numbered : number_for limits before a.content ≡ Ok (suc (length before))
 
 -- each comes after those before it
@@ -33,7 +33,7 @@ pub record AreStepped (limits : Limits) (commands : List Accepted) : Type 0 wher
   pub limited : are_limits limits ≡ true
   pub policy : Policy
   pub bytes : List ℕ
-  pub written : policy_at bytes ≡ Ok policy
+  pub written : read_policy bytes ≡ Ok policy
   pub later : List Accepted
   pub begins : commands ≡ making_of policy bytes ∷ later
   pub come : ComeAfter limits (making_of policy bytes ∷ []) later

@@ -1,7 +1,7 @@
 //! Commands, and what is answered to them.
 
 ghost use Rattle.std.specs.Prelude.{◌≡◌};
-ghost use Rattle.wh_admission.specs.Admission.{bytes_kept};
+ghost use Rattle.wh_admission.specs.Admission.{kept_bytes};
 
 use sqlite_value::value::Bytes;
 use thiserror::Error;
@@ -23,7 +23,7 @@ pub struct Command {
 impl Command {
     /// What is kept of its bytes.
     pub fn kept_bytes(&self) -> &[u8]
-        ensures { result.now ≡ bytes_kept self.now.kind self.now.bytes }
+        ensures { result.now ≡ kept_bytes self.now.kind self.now.bytes }
     {
         match self.kind {
             CommandKind::Batch(_) | CommandKind::Migration => self.bytes.as_slice(),
@@ -67,7 +67,7 @@ pub enum Limit {
 
 /// Why a command isn't accepted. It isn't kept, and may be sent again.
 #[derive(Clone, Copy, Debug, PartialEq, Eq, Error)]
-pub enum Refused {
+pub enum Refusal {
     /// The id isn't 1 to 40 letters, digits, `-`, `_` or `.`.
     #[error("the id is a bad one")]
     BadId,

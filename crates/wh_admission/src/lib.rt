@@ -4,4 +4,4 @@
 mod command;
 pub mod laws;
 
-pub use command::{Command, Limit, Receipt, Refused, Reply};
+pub use command::{Command, Limit, Receipt, Refusal, Reply};

@@ -19,8 +19,8 @@ use Rattle.wh_batch.specs.declared.fault.FaultKind.{FaultKind}
 use Rattle.wh_batch.specs.declared.fault.FaultKind.TheVariants.{WrongLength}
 use Rattle.wh_batch.specs.declared.holds.Holds.TheVariants as holds
 use Rattle.wh_batch.specs.Columns.{Column, fault_in, is_at_fault, first_fault, fault_by_columns}
-use Rattle.wh_batch.specs.Fields.{key_at, customer_at, day_at, effective_day_at, value_at, values_at}
-use Rattle.wh_batch.specs.Numbers.{line_at, quantity_at, amount_at, discount_at}
+use Rattle.wh_batch.specs.Fields.{key_of, customer_of, day_of, effective_day_of, value_of, values_of}
+use Rattle.wh_batch.specs.Numbers.{line_of, quantity_of, amount_of, discount_of}
 use Rattle.wh_batch.specs.Layouts.{column, dimension_columns, dimension_record, dimension_layout, undiscounted, undiscounted_columns, sales_columns, discount_in, sale_record, sales_layout, void_columns, void_record, voids_layout}
 use Rattle.wh_batch.specs.Laws.{FaultsByColumns}
 
@@ -68,15 +68,15 @@ unfolding void_record
 void-by-columns [] = wrong-length void_columns [] (λ e. absurd cc)
 void-by-columns (ticket ∷ []) = wrong-length void_columns (ticket ∷ []) (λ e. absurd cc)
 void-by-columns (ticket ∷ line ∷ []) =
-    then-fault (key_at 20 ticket) _ _ (λ ticket. then-fault (line_at line) _ None (λ line. refl)) ∙ right-length void_columns (ticket ∷ line ∷ []) refl
+    then-fault (key_of 20 ticket) _ _ (λ ticket. then-fault (line_of line) _ None (λ line. refl)) ∙ right-length void_columns (ticket ∷ line ∷ []) refl
 void-by-columns (ticket ∷ line ∷ other ∷ fields) = wrong-length void_columns (ticket ∷ line ∷ other ∷ fields) (λ e. absurd cc)
 
-values-fault : (fields : List (List ℕ)) (attributes : List Attribute) → length fields ≡ length attributes → result_err (values_at fields) ≡ in_turn (map (λ a. column a.name holds.Value) attributes) fields
-unfolding values_at
+values-fault : (fields : List (List ℕ)) (attributes : List Attribute) → length fields ≡ length attributes → result_err (values_of fields) ≡ in_turn (map (λ a. column a.name holds.Value) attributes) fields
+unfolding values_of
 values-fault [] [] same = refl
 values-fault [] (a ∷ attributes) same = absurd (omega arith)
 values-fault (field ∷ fields) [] same = absurd (omega arith)
-values-fault (field ∷ fields) (a ∷ attributes) same = then-fault (value_at field) _ _ (λ value. same-fault (values_at fields) _ ∙ values-fault fields attributes (omega arith))
+values-fault (field ∷ fields) (a ∷ attributes) same = then-fault (value_of field) _ _ (λ value. same-fault (values_of fields) _ ∙ values-fault fields attributes (omega arith))
 
 pub dimension-by-columns : (attributes : List Attribute) → FaultsByColumns (dimension_layout attributes)
 unfolding dimension_record
@@ -85,14 +85,14 @@ dimension-by-columns attributes (id ∷ []) = wrong-length (dimension_columns at
 dimension-by-columns attributes (id ∷ day ∷ fields) = by_length (eqb (length fields) (length attributes)) refl
   where
     by_length : (b : Bool) → b ≡ eqb (length fields) (length attributes)
-        → result_err {T = DimensionRecord} (cond (not b) (Err WrongLength) (key_at 32 id >>= λ natural. effective_day_at day >>= λ day. values_at fields >>= λ values. Ok (record { natural = natural; day = day; values = values })))
+        → result_err {T = DimensionRecord} (cond (not b) (Err WrongLength) (key_of 32 id >>= λ natural. effective_day_of day >>= λ day. values_of fields >>= λ values. Ok (record { natural = natural; day = day; values = values })))
         ≡ fault_by_columns (dimension_columns attributes) (id ∷ day ∷ fields)
     by_length false same =
         let other = eqb-false (length fields) (length attributes) (sym same) in
         wrong-length (dimension_columns attributes) (id ∷ day ∷ fields) (λ e. other (omega (arith, length-map attributes (λ a. column a.name holds.Value))))
     by_length true same =
         let few = eqb-true (length fields) (length attributes) (sym same) in
-        then-fault (key_at 32 id) _ _ (λ natural. then-fault (effective_day_at day) _ _ (λ day. same-fault (values_at fields) _ ∙ values-fault fields attributes few))
+        then-fault (key_of 32 id) _ _ (λ natural. then-fault (effective_day_of day) _ _ (λ day. same-fault (values_of fields) _ ∙ values-fault fields attributes few))
         ∙ right-length (dimension_columns attributes) (id ∷ day ∷ fields) (omega (arith, length-map attributes (λ a. column a.name holds.Value)))
 
 -- the first nine fields of a sale
@@ -101,8 +101,8 @@ undiscounted-fault : (ticket line day store product customer quantity amount cos
     ≡ in_turn undiscounted_columns (ticket ∷ line ∷ day ∷ store ∷ product ∷ customer ∷ quantity ∷ amount ∷ cost ∷ [])
 unfolding undiscounted
 undiscounted-fault ticket line day store product customer quantity amount cost =
-    then-fault (key_at 20 ticket) _ _ (λ a. then-fault (line_at line) _ _ (λ b. then-fault (day_at day) _ _ (λ c. then-fault (key_at 32 store) _ _ (λ d. then-fault (key_at 32 product) _ _ (λ e.
-    then-fault (customer_at customer) _ _ (λ f. then-fault (quantity_at quantity) _ _ (λ g. then-fault (amount_at amount) _ _ (λ h. then-fault (amount_at cost) _ None (λ i. refl)))))))))
+    then-fault (key_of 20 ticket) _ _ (λ a. then-fault (line_of line) _ _ (λ b. then-fault (day_of day) _ _ (λ c. then-fault (key_of 32 store) _ _ (λ d. then-fault (key_of 32 product) _ _ (λ e.
+    then-fault (customer_of customer) _ _ (λ f. then-fault (quantity_of quantity) _ _ (λ g. then-fault (amount_of amount) _ _ (λ h. then-fault (amount_of cost) _ None (λ i. refl)))))))))
 
 in_turn-append : (columns others : List Column) (fields more : List (List ℕ)) → length columns ≡ length fields → in_turn (columns ++ others) (fields ++ more) ≡ option_or (in_turn columns fields) (in_turn others more)
 in_turn-append [] others [] more same = refl
@@ -120,9 +120,9 @@ sale-two : (fields : List (List ℕ)) → length fields ≡ 10 → result_err (s
 unfolding sale_record discount_in field_at
 sale-two (a ∷ b ∷ c ∷ d ∷ e ∷ f ∷ g ∷ h ∷ i ∷ j ∷ []) ten =
     let nine = a ∷ b ∷ c ∷ d ∷ e ∷ f ∷ g ∷ h ∷ i ∷ [] in
-    then-fault (undiscounted nine) _ (result_err (discount_at j)) (λ sale. same-fault (discount_at j) _)
-    ∙ ap (λ (o : Option FaultKind). option_or o (result_err (discount_at j))) (undiscounted-fault a b c d e f g h i)
-    ∙ ap (option_or (in_turn undiscounted_columns nine)) (sym (option_or-none (result_err (discount_at j))))
+    then-fault (undiscounted nine) _ (result_err (discount_of j)) (λ sale. same-fault (discount_of j) _)
+    ∙ ap (λ (o : Option FaultKind). option_or o (result_err (discount_of j))) (undiscounted-fault a b c d e f g h i)
+    ∙ ap (option_or (in_turn undiscounted_columns nine)) (sym (option_or-none (result_err (discount_of j))))
     ∙ sym (in_turn-append undiscounted_columns (column (codes "discount") holds.Discount ∷ []) nine (j ∷ []) refl)
 sale-two _ ten = absurd (omega arith)
 

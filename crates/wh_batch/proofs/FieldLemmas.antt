@@ -6,19 +6,19 @@ use Rattle.wh_day.specs.declared.error.ParseError.{ParseError}
 use Rattle.wh_day.specs.Reading.{Fails}
 use Rattle.wh_day.proofs.Loops.{with_front, with_front-cons, with_front-nil, with_front-fails}
 use Rattle.wh_batch.specs.declared.fault.FaultKind.{FaultKind}
-use Rattle.wh_batch.specs.Fields.{value_at, values_at}
+use Rattle.wh_batch.specs.Fields.{value_of, values_of}
 
-pub values-next : (front : List (List ℕ)) (field : List ℕ) (rest : List (List ℕ)) (value : List ℕ) → value_at field ≡ Ok value
-    → with_front front (values_at (field ∷ rest)) ≡ with_front (front ++ value ∷ []) (values_at rest)
-unfolding values_at
-values-next front field rest value e = rw e (with_front-cons front value (values_at rest))
+pub values-next : (front : List (List ℕ)) (field : List ℕ) (rest : List (List ℕ)) (value : List ℕ) → value_of field ≡ Ok value
+    → with_front front (values_of (field ∷ rest)) ≡ with_front (front ++ value ∷ []) (values_of rest)
+unfolding values_of
+values-next front field rest value e = rw e (with_front-cons front value (values_of rest))
 
-pub values-fail : (error : ParseError FaultKind) (front : List (List ℕ)) (field : List ℕ) (rest : List (List ℕ)) → Fails error (value_at field) → Fails error (with_front front (values_at (field ∷ rest)))
-unfolding values_at
-values-fail error front field rest h = with_front-fails error front (value_at field) _ h
+pub values-fail : (error : ParseError FaultKind) (front : List (List ℕ)) (field : List ℕ) (rest : List (List ℕ)) → Fails error (value_of field) → Fails error (with_front front (values_of (field ∷ rest)))
+unfolding values_of
+values-fail error front field rest h = with_front-fails error front (value_of field) _ h
 
-pub values-done : (front : List (List ℕ)) → with_front front (values_at []) ≡ Ok front
-unfolding values_at
+pub values-done : (front : List (List ℕ)) → with_front front (values_of []) ≡ Ok front
+unfolding values_of
 values-done front = with_front-nil front
 
 -- one more field

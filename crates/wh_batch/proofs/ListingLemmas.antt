@@ -10,7 +10,7 @@ use Rattle.std.proofs.lemmas.List.{append-nil}
 use Rattle.std.proofs.lemmas.List.Elements.{filter-append}
 use Rattle.csv.specs.Reading.{records, default_config, strip_bom}
 use Rattle.wh_day.specs.Reading.{◌>>=◌}
-use Rattle.wh_policy.specs.Policy.{attributes_of}
+use Rattle.wh_policy.specs.Policy.{policy_attributes}
 use Rattle.wh_policy.specs.declared.format.Format.{Format}
 use Rattle.wh_policy.specs.declared.format.Format.TheVariants.{One, Two}
 use Rattle.wh_policy.specs.declared.policy.Policy.{Policy}
@@ -63,7 +63,7 @@ first-batch layout bytes = by_size (ltb 1000000 (length bytes))
 
 pub first-is-read : (kind : Kind) (policy : Policy) (format : Format) → FirstIsRead (faults_of_kind kind policy format) (records_of kind policy format)
 unfolding faults_of_kind records_of dimension_records sale_records void_records
-first-is-read (Dimension dim) policy format bytes = first-batch (dimension_layout (attributes_of policy dim)) bytes ∙ sym (same-fault (batch_of (dimension_layout (attributes_of policy dim)) bytes) _)
+first-is-read (Dimension dim) policy format bytes = first-batch (dimension_layout (policy_attributes policy dim)) bytes ∙ sym (same-fault (batch_of (dimension_layout (policy_attributes policy dim)) bytes) _)
 first-is-read Sales policy format bytes = first-batch (sales_layout format policy.years) bytes ∙ sym (same-fault (batch_of (sales_layout format policy.years) bytes) _)
 first-is-read Voids policy One bytes = refl
 first-is-read Voids policy Two bytes = first-batch voids_layout bytes ∙ sym (same-fault (batch_of voids_layout bytes) _)

@@ -14,7 +14,7 @@ use Rattle.wh_batch.specs.declared.fault.FaultKind.{FaultKind}
 use Rattle.wh_batch.specs.declared.fault.FaultKind.TheVariants.{BadKey, BadDay, BadValue, BadNumber}
 use Rattle.wh_batch.specs.declared.holds.Holds.{Holds}
 use Rattle.wh_batch.specs.declared.holds.Holds.TheVariants.{Ticket, Key, CustomerKey, Day, EffectiveDay, Value, Line, Quantity, Amount, Discount}
-use Rattle.wh_batch.specs.Fields.{key_at, customer_at, day_at, last_effective_day, effective_day_at, value_at}
+use Rattle.wh_batch.specs.Fields.{key_of, customer_of, day_of, last_effective_day, effective_day_of, value_of}
 use Rattle.wh_batch.specs.Numbers.{read_line, read_quantity, read_amount, read_hundredths}
 use Rattle.wh_batch.specs.Columns.{Column, fault_in, is_at_fault, first_fault, place_at_fault}
 use Rattle.wh_batch.specs.Batch.{Layout}
@@ -44,37 +44,37 @@ only : {A : Type 0} (read : Option A) (bad kind : FaultKind) → result_err (ok_
 only (Some x) bad kind h = absurd cc
 only None bad kind h = cc
 
-only-key : (most : ℕ) (text : List ℕ) (kind : FaultKind) → result_err (key_at most text) ≡ Some kind → BadKey ≡ kind
-unfolding key_at
+only-key : (most : ℕ) (text : List ℕ) (kind : FaultKind) → result_err (key_of most text) ≡ Some kind → BadKey ≡ kind
+unfolding key_of
 only-key most text kind h = by_test (is_key most text) h
   where
     by_test : (b : Bool) → result_err {T = List ℕ} (cond b (Ok text) (Err BadKey)) ≡ Some kind → BadKey ≡ kind
     by_test true h = absurd cc
     by_test false h = cc
 
-only-customer : (text : List ℕ) (kind : FaultKind) → result_err (customer_at text) ≡ Some kind → BadKey ≡ kind
-unfolding customer_at
+only-customer : (text : List ℕ) (kind : FaultKind) → result_err (customer_of text) ≡ Some kind → BadKey ≡ kind
+unfolding customer_of
 only-customer [] kind h = absurd cc
-only-customer (first ∷ rest) kind h = only-key 32 (first ∷ rest) kind (sym (same-fault (key_at 32 (first ∷ rest)) _) ∙ h)
+only-customer (first ∷ rest) kind h = only-key 32 (first ∷ rest) kind (sym (same-fault (key_of 32 (first ∷ rest)) _) ∙ h)
 
-only-day : (text : List ℕ) (kind : FaultKind) → result_err (day_at text) ≡ Some kind → BadDay ≡ kind
-unfolding day_at
+only-day : (text : List ℕ) (kind : FaultKind) → result_err (day_of text) ≡ Some kind → BadDay ≡ kind
+unfolding day_of
 only-day text kind h = only (read_day text) BadDay kind h
 
-only-effective : (text : List ℕ) (kind : FaultKind) → result_err (effective_day_at text) ≡ Some kind → BadDay ≡ kind
-unfolding effective_day_at
-only-effective text kind h = by_day (day_at text) refl h
+only-effective : (text : List ℕ) (kind : FaultKind) → result_err (effective_day_of text) ≡ Some kind → BadDay ≡ kind
+unfolding effective_day_of
+only-effective text kind h = by_day (day_of text) refl h
   where
     by_test : (b : Bool) (day : ℕ) → result_err {T = ℕ} (cond b (Ok day) (Err BadDay)) ≡ Some kind → BadDay ≡ kind
     by_test true day h = absurd cc
     by_test false day h = cc
 
-    by_day : (read : Result ℕ FaultKind) → read ≡ day_at text → result_err (read >>= λ day. cond (nat_le day last_effective_day) (Ok day) (Err BadDay)) ≡ Some kind → BadDay ≡ kind
+    by_day : (read : Result ℕ FaultKind) → read ≡ day_of text → result_err (read >>= λ day. cond (nat_le day last_effective_day) (Ok day) (Err BadDay)) ≡ Some kind → BadDay ≡ kind
     by_day (Ok day) same h = by_test (nat_le day last_effective_day) day h
     by_day (Err found) same h = only-day text kind (ap (λ (r : Result ℕ FaultKind). result_err r) (sym same) ∙ h)
 
-only-value : (text : List ℕ) (kind : FaultKind) → result_err (value_at text) ≡ Some kind → BadValue ≡ kind
-unfolding value_at
+only-value : (text : List ℕ) (kind : FaultKind) → result_err (value_of text) ≡ Some kind → BadValue ≡ kind
+unfolding value_of
 only-value text kind h = only (read_value text) BadValue kind h
 
 -- a fault of a field has the place of the first field at fault

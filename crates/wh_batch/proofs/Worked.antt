@@ -15,10 +15,10 @@ use Rattle.wh_batch.specs.declared.kind.Kind.TheVariants.{Dimension, Sales, Void
 use Rattle.wh_batch.specs.declared.manifest.ManifestEntry.{ManifestEntry}
 use Rattle.wh_batch.specs.declared.report_list.ListedReport.{ListedReport}
 use Rattle.wh_batch.specs.Batch.{at, records_after}
-use Rattle.wh_batch.specs.Fields.{key_at, customer_at, day_at, effective_day_at, value_at}
+use Rattle.wh_batch.specs.Fields.{key_of, customer_of, day_of, effective_day_of, value_of}
 use Rattle.wh_batch.specs.Numbers.{read_line, read_quantity, read_amount}
 use Rattle.wh_batch.specs.Layouts.{dimension_record, dimension_records, sale_record, sale_records, sales_layout, void_record, void_records}
-use Rattle.wh_batch.specs.Kind.{command_word, command_kind_of}
+use Rattle.wh_batch.specs.Kind.{command_kind_word, command_kind_of_word}
 use Rattle.wh_batch.specs.Manifest.{entry_of, manifest_of}
 use Rattle.wh_batch.specs.ReportList.{listed_report, reports_of}
 use Rattle.wh_batch.proofs.OnLiterals.{batch_on_literals}
@@ -70,21 +70,21 @@ unfolding batch_on_literals
 no_lines = (refl, refl, refl)
 
 -- keys
-keys : (key_at 32 (codes "P.1-_x") ≡ Ok (codes "P.1-_x")) × (key_at 32 (codes "S 1") ≡ Err BadKey) × (key_at 32 [] ≡ Err BadKey) × (customer_at [] ≡ Ok None)
+keys : (key_of 32 (codes "P.1-_x") ≡ Ok (codes "P.1-_x")) × (key_of 32 (codes "S 1") ≡ Err BadKey) × (key_of 32 [] ≡ Err BadKey) × (customer_of [] ≡ Ok None)
 unfolding batch_on_literals
 keys = (refl, refl, refl, refl)
 
 -- days
-days : (day_at (codes "2023-02-29") ≡ Err BadDay) × (day_at (codes "2200-01-01") ≡ Ok 22000101) × (effective_day_at (codes "2199-12-31") ≡ Ok 21991231) × (effective_day_at (codes "2200-01-01") ≡ Err BadDay)
+days : (day_of (codes "2023-02-29") ≡ Err BadDay) × (day_of (codes "2200-01-01") ≡ Ok 22000101) × (effective_day_of (codes "2199-12-31") ≡ Ok 21991231) × (effective_day_of (codes "2200-01-01") ≡ Err BadDay)
 unfolding batch_on_literals
 days = (refl, refl, refl, refl)
 
 -- values: sixty letters are one, and sixty-one aren't
-sixty_letters : value_at (replicate 60 120) ≡ Ok (replicate 60 120)
+sixty_letters : value_of (replicate 60 120) ≡ Ok (replicate 60 120)
 unfolding batch_on_literals
 sixty_letters = rw (is_utf8-from_IsUtf8 (replicate 60 120) (key_is_text (replicate 60 120) refl)) refl
 
-sixty_one_letters : value_at (replicate 61 120) ≡ Err BadValue
+sixty_one_letters : value_of (replicate 61 120) ≡ Err BadValue
 unfolding batch_on_literals
 sixty_one_letters = refl
 
@@ -208,7 +208,7 @@ unfolding batch_on_literals
 none_in_the_first_format bytes = refl
 
 -- the words of commands
-words : (command_kind_of (codes "sales") ≡ Some (Batch Sales)) × (command_kind_of (codes "void") ≡ Some (Batch Voids)) × (command_kind_of (codes "migrate") ≡ Some Migration) × (command_kind_of (codes "upgrade") ≡ Some Upgrade) × (command_kind_of (codes "init") ≡ None) × (command_word (Batch (Dimension Product)) ≡ codes "product")
+words : (command_kind_of_word (codes "sales") ≡ Some (Batch Sales)) × (command_kind_of_word (codes "void") ≡ Some (Batch Voids)) × (command_kind_of_word (codes "migrate") ≡ Some Migration) × (command_kind_of_word (codes "upgrade") ≡ Some Upgrade) × (command_kind_of_word (codes "init") ≡ None) × (command_kind_word (Batch (Dimension Product)) ≡ codes "product")
 words = (refl, refl, refl, refl, refl, refl)
 
 -- manifests, with the line end given

@@ -7,8 +7,8 @@ use Rattle.wh_batch.specs.declared.fault.FaultKind.{FaultKind}
 use Rattle.wh_batch.specs.declared.fault.FaultKind.TheVariants.{WrongLength}
 use Rattle.wh_batch.specs.declared.holds.Holds.{Holds}
 use Rattle.wh_batch.specs.declared.holds.Holds.TheVariants.{Ticket, Key, CustomerKey, Day, EffectiveDay, Value, Line, Quantity, Amount, Discount}
-use Rattle.wh_batch.specs.Fields.{key_at, customer_at, day_at, effective_day_at, value_at}
-use Rattle.wh_batch.specs.Numbers.{line_at, quantity_at, amount_at, discount_at}
+use Rattle.wh_batch.specs.Fields.{key_of, customer_of, day_of, effective_day_of, value_of}
+use Rattle.wh_batch.specs.Numbers.{line_of, quantity_of, amount_of, discount_of}
 
 -- what a column is called, and what its fields hold
 pub record Column : Type 0 where
@@ -27,16 +27,16 @@ Tells (Err errors.Memory) fault = ⊥
 
 -- what is wrong with a text where a field holds this, if something is
 abbrev pub fault_in : Holds → List ℕ → Option FaultKind
-fault_in Ticket text = result_err (key_at 20 text)
-fault_in Key text = result_err (key_at 32 text)
-fault_in CustomerKey text = result_err (customer_at text)
-fault_in Day text = result_err (day_at text)
-fault_in EffectiveDay text = result_err (effective_day_at text)
-fault_in Value text = result_err (value_at text)
-fault_in Line text = result_err (line_at text)
-fault_in Quantity text = result_err (quantity_at text)
-fault_in Amount text = result_err (amount_at text)
-fault_in Discount text = result_err (discount_at text)
+fault_in Ticket text = result_err (key_of 20 text)
+fault_in Key text = result_err (key_of 32 text)
+fault_in CustomerKey text = result_err (customer_of text)
+fault_in Day text = result_err (day_of text)
+fault_in EffectiveDay text = result_err (effective_day_of text)
+fault_in Value text = result_err (value_of text)
+fault_in Line text = result_err (line_of text)
+fault_in Quantity text = result_err (quantity_of text)
+fault_in Amount text = result_err (amount_of text)
+fault_in Discount text = result_err (discount_of text)
 
 -- whether something is wrong with a column's text
 abbrev pub is_at_fault : Column × List ℕ → Bool

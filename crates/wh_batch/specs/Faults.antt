@@ -4,7 +4,7 @@ use Rattle.std.specs.Result.{result_ok, result_err}
 use Rattle.std.specs.Str.{bytes_eq}
 use Rattle.std.specs.Cmp.Lexicographic.{pointwise}
 use Rattle.csv.specs.Reading.{records, default_config, strip_bom}
-use Rattle.wh_policy.specs.Policy.{attributes_of}
+use Rattle.wh_policy.specs.Policy.{policy_attributes}
 use Rattle.wh_policy.specs.declared.format.Format.{Format}
 use Rattle.wh_policy.specs.declared.format.Format.TheVariants.{One, Two}
 use Rattle.wh_policy.specs.declared.policy.Policy.{Policy}
@@ -89,7 +89,7 @@ faults_of layout bytes =
 
 -- all faults of a batch of this kind
 unfoldable pub faults_of_kind : Kind → Policy → Format → List ℕ → List RecordFault
-faults_of_kind (Dimension dim) policy format bytes = faults_of (dimension_layout (attributes_of policy dim)) bytes
+faults_of_kind (Dimension dim) policy format bytes = faults_of (dimension_layout (policy_attributes policy dim)) bytes
 faults_of_kind Sales policy format bytes = faults_of (sales_layout format policy.years) bytes
 faults_of_kind Voids policy One bytes = whole 0 NotInFormat ∷ []
 faults_of_kind Voids policy Two bytes = faults_of voids_layout bytes

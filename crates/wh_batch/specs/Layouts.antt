@@ -2,7 +2,7 @@
 use Rattle.std.specs.Prelude.{ℕ, ◌==◌, not, true, if◌then◌else◌, codes, List, [], ◌∷◌, ◌++◌, length, map, take, unwrap_or, Result, Ok, Err}
 use Rattle.csv.specs.Records.{field_at}
 use Rattle.wh_day.specs.Reading.{◌>>=◌}
-use Rattle.wh_policy.specs.Policy.{attributes_of}
+use Rattle.wh_policy.specs.Policy.{policy_attributes}
 use Rattle.wh_policy.specs.Years.{is_within}
 use Rattle.wh_policy.specs.declared.attribute.Attribute.{Attribute}
 use Rattle.wh_policy.specs.declared.attribute.Dim.{Dim}
@@ -23,8 +23,8 @@ use Rattle.wh_policy.specs.declared.format.Format.TheVariants.{One, Two}
 use Rattle.wh_batch.specs.declared.records.Records.{Records}
 use Rattle.wh_batch.specs.declared.records.Records.TheVariants as of_kind
 use Rattle.wh_batch.specs.Columns.{Column}
-use Rattle.wh_batch.specs.Fields.{key_at, customer_at, day_at, effective_day_at, values_at}
-use Rattle.wh_batch.specs.Numbers.{line_at, quantity_at, amount_at, discount_at}
+use Rattle.wh_batch.specs.Fields.{key_of, customer_of, day_of, effective_day_of, values_of}
+use Rattle.wh_batch.specs.Numbers.{line_of, quantity_of, amount_of, discount_of}
 use Rattle.wh_batch.specs.Batch.{Key, Layout, at, batch_of}
 
 -- an id, a day, and a value for each attribute
@@ -32,9 +32,9 @@ unfoldable pub dimension_record : ℕ → List (List ℕ) → Result DimensionRe
 dimension_record attributes [] = Err WrongLength
 dimension_record attributes (id ∷ []) = Err WrongLength
 dimension_record attributes (id ∷ day ∷ fields) = if not (length fields == attributes) then Err WrongLength else do
-  natural ← key_at 32 id
-  day ← effective_day_at day
-  values ← values_at fields
+  natural ← key_of 32 id
+  day ← effective_day_of day
+  values ← values_of fields
   Ok (record { natural = natural; day = day; values = values })
 
 -- the member and the day
@@ -60,7 +60,7 @@ dimension_layout attributes = record {
 
 -- the records of a batch for a dimension, or its first fault; they are written alike in each format
 unfoldable pub dimension_records : Dim → Policy → List ℕ → Result (List DimensionRecord) BatchFault
-dimension_records dim policy bytes = batch_of (dimension_layout (attributes_of policy dim)) bytes
+dimension_records dim policy bytes = batch_of (dimension_layout (policy_attributes policy dim)) bytes
 
 -- how many fields a sale has
 abbrev pub fields_of_a_sale : Format → ℕ
@@ -70,15 +70,15 @@ fields_of_a_sale Two = 10
 -- a ticket and a line, a day, a store, a product and perhaps a customer, a quantity, an amount and a cost
 unfoldable pub undiscounted : List (List ℕ) → Result SaleRecord FaultKind
 undiscounted (ticket ∷ line ∷ day ∷ store ∷ product ∷ customer ∷ quantity ∷ amount ∷ cost ∷ []) = do
-  ticket ← key_at 20 ticket
-  line ← line_at line
-  day ← day_at day
-  store ← key_at 32 store
-  product ← key_at 32 product
-  customer ← customer_at customer
-  quantity ← quantity_at quantity
-  amount ← amount_at amount
-  cost ← amount_at cost
+  ticket ← key_of 20 ticket
+  line ← line_of line
+  day ← day_of day
+  store ← key_of 32 store
+  product ← key_of 32 product
+  customer ← customer_of customer
+  quantity ← quantity_of quantity
+  amount ← amount_of amount
+  cost ← amount_of cost
   Ok (record { ticket = ticket; line = line; day = day; store = store; product = product; customer = customer; quantity = quantity; amount = amount; cost = cost; discount = 0 })
 undiscounted _ = Err WrongLength
 
@@ -89,7 +89,7 @@ tenth fields = unwrap_or (field_at fields 9) []
 -- the discount among the fields: none in the first format, and the tenth in the second
 unfoldable pub discount_in : Format → List (List ℕ) → Result ℕ FaultKind
 discount_in One fields = Ok 0
-discount_in Two fields = discount_at (tenth fields)
+discount_in Two fields = discount_of (tenth fields)
 
 -- the nine fields, and in the second format a discount behind them
 unfoldable pub sale_record : Format → List (List ℕ) → Result SaleRecord FaultKind
@@ -130,8 +130,8 @@ sale_records policy format bytes = batch_of (sales_layout format policy.years) b
 -- a ticket and a line
 unfoldable pub void_record : List (List ℕ) → Result VoidRecord FaultKind
 void_record (ticket ∷ line ∷ []) = do
-  ticket ← key_at 20 ticket
-  line ← line_at line
+  ticket ← key_of 20 ticket
+  line ← line_of line
   Ok (record { ticket = ticket; line = line })
 void_record _ = Err WrongLength
 
@@ -165,6 +165,6 @@ records_of kinds.Voids policy format bytes = void_records format bytes >>= λ rs
 
 -- the columns of a batch of this kind
 abbrev pub columns_of : Kind → Policy → Format → List Column
-columns_of (kinds.Dimension dim) policy format = dimension_columns (attributes_of policy dim)
+columns_of (kinds.Dimension dim) policy format = dimension_columns (policy_attributes policy dim)
 columns_of kinds.Sales policy format = sales_columns format
 columns_of kinds.Voids policy format = void_columns

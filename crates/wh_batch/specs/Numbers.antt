@@ -45,17 +45,17 @@ unfoldable pub read_amount : List ℕ → Option ℤ
 read_amount text = signed read_hundredths text
 
 -- the line that a field writes
-abbrev pub line_at : List ℕ → Result ℕ FaultKind
-line_at field = ok_or (read_line field) BadNumber
+abbrev pub line_of : List ℕ → Result ℕ FaultKind
+line_of field = ok_or (read_line field) BadNumber
 
 -- the quantity that a field writes
-abbrev pub quantity_at : List ℕ → Result ℤ FaultKind
-quantity_at field = ok_or (read_quantity field) BadNumber
+abbrev pub quantity_of : List ℕ → Result ℤ FaultKind
+quantity_of field = ok_or (read_quantity field) BadNumber
 
 -- the discount that a field writes, without a sign
-abbrev pub discount_at : List ℕ → Result ℕ FaultKind
-discount_at field = ok_or (read_hundredths field) BadNumber
+abbrev pub discount_of : List ℕ → Result ℕ FaultKind
+discount_of field = ok_or (read_hundredths field) BadNumber
 
 -- the amount that a field writes
-abbrev pub amount_at : List ℕ → Result ℤ FaultKind
-amount_at field = ok_or (read_amount field) BadNumber
+abbrev pub amount_of : List ℕ → Result ℤ FaultKind
+amount_of field = ok_or (read_amount field) BadNumber

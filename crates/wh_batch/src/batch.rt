@@ -47,10 +47,10 @@ pub(crate) fn batch_of<L: RecordLayout>(
     }
     // A record seldom has fewer than 32 bytes.
     let room = (bytes.len() / 32).min(MOST_RECORDS as usize);
-    records_below(alloc, layout, room, &mut rows)
+    records_after(alloc, layout, room, &mut rows)
 }
 
-fn records_below<L: RecordLayout>(
+fn records_after<L: RecordLayout>(
     alloc: Global,
     layout: &L,
     room: usize,

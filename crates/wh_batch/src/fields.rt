@@ -4,7 +4,7 @@ ghost use Rattle.std.specs.Prelude.{◌≡◌, ◌≤◌, map, IfOk, ok_or, Some
 ghost use Rattle.std.specs.Str.{is_utf8};
 ghost use Rattle.csv.specs.Records.{fields_of};
 ghost use Rattle.wh_day.specs.Reading.{Gives};
-ghost use Rattle.wh_batch.specs.Fields.{key_at, customer_at, day_at, effective_day_at, value_at, values_at};
+ghost use Rattle.wh_batch.specs.Fields.{key_of, customer_of, day_of, effective_day_of, value_of, values_of};
 
 use crate::fault::FaultKind;
 use csv::ByteRecord;
@@ -25,7 +25,7 @@ pub(crate) fn fields_of(alloc: Global, row: &ByteRecord) -> Result<Vec<&[u8]>, A
 }
 
 /// The text that a field is, if it is one.
-pub(crate) fn text_of(field: &[u8]) -> Option<&str>
+pub(crate) fn as_text(field: &[u8]) -> Option<&str>
     ensures { option_map (λ text. text.now) result ≡ (if is_utf8 field.now then Some field.now else None) }
 {
     match std::str::from_utf8(field) {
@@ -48,18 +48,18 @@ pub(crate) fn or_fault<T: Drop>(
 }
 
 /// The key of at most so many bytes that a field is.
-#[tactic(auto, unfolding(crate::specs::Fields::key_at))]
+#[tactic(auto, unfolding(crate::specs::Fields::key_of))]
 pub(crate) fn key_of(most: usize, field: &[u8]) -> Result<NaturalKey, ParseError<FaultKind>>
     requires { most ≤ 32 }
-    ensures { Gives (λ key. key) result (key_at most field.now) }
+    ensures { Gives (λ key. key) result (key_of most field.now) }
 {
     or_fault(NaturalKey::read(most, field), FaultKind::BadKey)
 }
 
 /// The key of the customer, whom a sale needn't have.
-#[tactic(auto, unfolding(crate::specs::Fields::customer_at))]
+#[tactic(auto, unfolding(crate::specs::Fields::customer_of))]
 pub(crate) fn customer_of(field: &[u8]) -> Result<Option<NaturalKey>, ParseError<FaultKind>>
-    ensures { Gives (λ customer. customer) result (customer_at field.now) }
+    ensures { Gives (λ customer. customer) result (customer_of field.now) }
 {
     match field {
         [] => Ok(None),
@@ -67,16 +67,16 @@ pub(crate) fn customer_of(field: &[u8]) -> Result<Option<NaturalKey>, ParseError
     }
 }
 
-#[tactic(auto, unfolding(crate::specs::Fields::day_at))]
+#[tactic(auto, unfolding(crate::specs::Fields::day_of))]
 pub(crate) fn day_of(field: &[u8]) -> Result<Day, ParseError<FaultKind>>
-    ensures { Gives (λ day. day) result (day_at field.now) }
+    ensures { Gives (λ day. day) result (day_of field.now) }
 {
     or_fault(Day::read(field), FaultKind::BadDay)
 }
 
-#[tactic(auto, unfolding(crate::specs::Fields::effective_day_at))]
+#[tactic(auto, unfolding(crate::specs::Fields::effective_day_of))]
 pub(crate) fn effective_day_of(field: &[u8]) -> Result<Day, ParseError<FaultKind>>
-    ensures { Gives (λ day. day) result (effective_day_at field.now) }
+    ensures { Gives (λ day. day) result (effective_day_of field.now) }
 {
     let day = day_of(field)?;
     if day.key() <= 21_991_231 {
@@ -86,15 +86,15 @@ pub(crate) fn effective_day_of(field: &[u8]) -> Result<Day, ParseError<FaultKind
     }
 }
 
-#[tactic(auto, unfolding(crate::specs::Fields::value_at))]
+#[tactic(auto, unfolding(crate::specs::Fields::value_of))]
 pub(crate) fn value_of(alloc: Global, field: &[u8]) -> Result<Value, ParseError<FaultKind>>
-    ensures { Gives (λ value. value) result (value_at field.now) }
+    ensures { Gives (λ value. value) result (value_of field.now) }
 {
     or_fault(Value::read(alloc, field)?, FaultKind::BadValue)
 }
 
 pub(crate) fn values_of(alloc: Global, fields: &[&[u8]]) -> Result<Values, ParseError<FaultKind>>
-    ensures { Gives (λ values. values) result (values_at (map (λ f. f.now) fields.now)) }
+    ensures { Gives (λ values. values) result (values_of (map (λ f. f.now) fields.now)) }
 {
     let mut values = Values::new(alloc);
     for field in fields {

@@ -1,7 +1,7 @@
 //! What a batch is of, and what a command is.
 
 ghost use Rattle.std.specs.Prelude.{◌≡◌};
-ghost use Rattle.wh_batch.specs.Kind.{kind_word, kind_of_word, command_word, command_kind_of};
+ghost use Rattle.wh_batch.specs.Kind.{kind_word, kind_of_word, command_kind_word, command_kind_of_word};
 
 use wh_policy::Dim;
 
@@ -59,7 +59,7 @@ pub enum CommandKind {
 impl CommandKind {
     /// The word for it, in commands and in those that are kept: the batch's, `migrate` or `upgrade`.
     pub fn word(self) -> &'static str
-        ensures { result.now ≡ command_word self }
+        ensures { result.now ≡ command_kind_word self }
     {
         match self {
             CommandKind::Batch(kind) => kind.word(),
@@ -70,7 +70,7 @@ impl CommandKind {
 
     /// The kind of a word, if it is the word for one.
     pub fn from_word(word: &str) -> Option<CommandKind>
-        ensures { result ≡ command_kind_of word.now }
+        ensures { result ≡ command_kind_of_word word.now }
     {
         if word == "migrate" {
             return Some(CommandKind::Migration);

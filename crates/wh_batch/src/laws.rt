@@ -1,7 +1,7 @@
 //! What holds of every batch.
 
 ghost use Rattle.std.specs.Prelude.{List};
-ghost use Rattle.wh_policy.specs.Policy.{attributes_of};
+ghost use Rattle.wh_policy.specs.Policy.{policy_attributes};
 ghost use Rattle.wh_policy.specs.declared.attribute.Attribute.{Attribute};
 ghost use Rattle.wh_policy.specs.declared.attribute.Dim.{Dim};
 ghost use Rattle.wh_policy.specs.declared.policy.Policy.{Policy};
@@ -25,7 +25,7 @@ pub fn one_record_more()
 /// Exactly the good batches are read: those that aren't too large, whose first row is the header, whose other rows each
 /// write a record, with no two of one key, and all days of sales in the calendar. Voids are batches of the second format alone.
 pub fn good_batches()
-    ensures dimensions { (dim : Dim) (policy : Policy) → ReadsBatches (dimension_layout (attributes_of policy dim)) (dimension_records dim policy) }
+    ensures dimensions { (dim : Dim) (policy : Policy) → ReadsBatches (dimension_layout (policy_attributes policy dim)) (dimension_records dim policy) }
     ensures sales { (policy : Policy) (format : Format) → ReadsBatches (sales_layout format policy.years) (sale_records policy format) }
     ensures voids { ReadsBatches voids_layout (void_records Two) }
 {}

@@ -37,7 +37,7 @@ pub use listed::{Faults, FaultyField, FieldText, ListedFault, RecordFault};
 pub use listing::faults;
 pub use manifest::{BadManifest, Manifest, ManifestEntry};
 pub use path::FilePath;
-pub use reader::{columns, read};
+pub use reader::{columns_of, read};
 pub use records::{DimensionRecords, Records, SaleRecords, VoidRecords};
 pub use report_list::{ListedReport, ReportList};
 pub use row_place::{RowPlace, lines_above, row_places};

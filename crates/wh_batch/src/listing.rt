@@ -38,7 +38,7 @@ pub fn faults(
 ) -> Result<Faults, AllocError>
     ensures { IfOk result (λ faults. AreFirst most (faults_of_kind kind policy.now format bytes.now) faults) }
 {
-    let all = all_faults(alloc, kind, policy, format, bytes)?;
+    let all = faults_of_kind(alloc, kind, policy, format, bytes)?;
     Ok(first_of(all, most))
 }
 
@@ -53,7 +53,7 @@ fn first_of(mut all: Vec<ListedFault>, most: usize) -> Faults
 
 /// All faults of a batch of this kind.
 #[tactic(auto, unfolding(crate::specs::Faults::faults_of_kind))]
-fn all_faults(
+fn faults_of_kind(
     alloc: Global,
     kind: Kind,
     policy: &Policy,
@@ -104,11 +104,11 @@ fn faults_of<L: RecordLayout>(
         let fault = wrong_header(alloc, &columns, &header)?;
         return only(alloc, fault, place_of_row(bytes, &rows, &row));
     }
-    faults_below(alloc, layout, &columns, bytes, &mut rows)
+    faults_after(alloc, layout, &columns, bytes, &mut rows)
 }
 
 /// The faults below the header.
-fn faults_below<L: RecordLayout>(
+fn faults_after<L: RecordLayout>(
     alloc: Global,
     layout: &L,
     columns: &[Column],
@@ -125,7 +125,7 @@ fn faults_below<L: RecordLayout>(
         if !rows.next(&mut row)? {
             return Ok(all);
         }
-        let fault = row_fault(alloc, layout, columns, &mut keys, number, &row)?;
+        let fault = fault_of_row(alloc, layout, columns, &mut keys, number, &row)?;
         add(&mut all, fault, place_of_row(bytes, rows, &row))?;
     }
     if !rows.next(&mut row)? {
@@ -151,7 +151,7 @@ fn add(
 }
 
 /// The fault of a row, if reading it gives one.
-fn row_fault<L: RecordLayout>(
+fn fault_of_row<L: RecordLayout>(
     alloc: Global,
     layout: &L,
     columns: &[Column],

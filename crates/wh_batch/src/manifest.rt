@@ -4,7 +4,7 @@ ghost use Rattle.std.specs.Prelude.{◌≡◌, [], ◌∷◌, IfOk, map};
 ghost use Rattle.wh_batch.specs.Manifest.{entry_of};
 
 use crate::entries::{Entry, EntryList};
-use crate::fields::text_of;
+use crate::fields::as_text;
 use crate::kind::CommandKind;
 use crate::path::FilePath;
 use std::alloc::{AllocError, Global};
@@ -55,7 +55,7 @@ fn three_fields(
 ) -> Result<Option<ManifestEntry>, AllocError>
     ensures { IfOk result (λ entry. entry ≡ entry_of (word.now ∷ id.now ∷ path.now ∷ [])) }
 {
-    let (Some(word), Some(id), Some(path)) = (text_of(word), text_of(id), text_of(path)) else {
+    let (Some(word), Some(id), Some(path)) = (as_text(word), as_text(id), as_text(path)) else {
         return Ok(None);
     };
     let Some(kind) = CommandKind::from_word(word) else {

@@ -5,7 +5,7 @@ ghost use Rattle.std.specs.Char.{is_ascii_digit};
 ghost use Rattle.std.specs.List.{list_all};
 ghost use Rattle.std.specs.Str.Parse.{digits_value};
 ghost use Rattle.wh_day.specs.Reading.{Gives};
-ghost use Rattle.wh_batch.specs.Numbers.{is_point, read_digits, read_fraction, read_hundredths, read_line, read_quantity, read_amount, line_at, quantity_at, amount_at, discount_at};
+ghost use Rattle.wh_batch.specs.Numbers.{is_point, read_digits, read_fraction, read_hundredths, read_line, read_quantity, read_amount, line_of, quantity_of, amount_of, discount_of};
 
 use crate::fault::FaultKind;
 use crate::fields::or_fault;
@@ -99,20 +99,20 @@ fn read_amount(text: &[u8]) -> Option<i64>
 
 /// The number of a line on its ticket, 1 to 9999.
 pub(crate) fn line_of(field: &[u8]) -> Result<u32, ParseError<FaultKind>>
-    ensures { Gives (λ line. line) result (line_at field.now) }
+    ensures { Gives (λ line. line) result (line_of field.now) }
 {
     or_fault(read_line(field), FaultKind::BadNumber)
 }
 
 pub(crate) fn quantity_of(field: &[u8]) -> Result<i64, ParseError<FaultKind>>
-    ensures { Gives (λ quantity. quantity) result (quantity_at field.now) }
+    ensures { Gives (λ quantity. quantity) result (quantity_of field.now) }
 {
     or_fault(read_quantity(field), FaultKind::BadNumber)
 }
 
 /// A discount, in hundredths: an amount without a sign.
 pub(crate) fn discount_of(field: &[u8]) -> Result<u64, ParseError<FaultKind>>
-    ensures { Gives (λ discount. discount) result (discount_at field.now) }
+    ensures { Gives (λ discount. discount) result (discount_of field.now) }
 {
     let hundredths = or_fault(read_hundredths(field), FaultKind::BadNumber)?;
     Ok(hundredths as u64)
@@ -120,7 +120,7 @@ pub(crate) fn discount_of(field: &[u8]) -> Result<u64, ParseError<FaultKind>>
 
 /// An amount of money, in hundredths.
 pub(crate) fn amount_of(field: &[u8]) -> Result<i64, ParseError<FaultKind>>
-    ensures { Gives (λ amount. amount) result (amount_at field.now) }
+    ensures { Gives (λ amount. amount) result (amount_of field.now) }
 {
     or_fault(read_amount(field), FaultKind::BadNumber)
 }

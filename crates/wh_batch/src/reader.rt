@@ -9,7 +9,7 @@ use crate::dimension::{dimension_columns, dimension_records};
 use crate::fault::BatchFault;
 use crate::kind::Kind;
 use crate::records::Records;
-use crate::sale::{sale_columns, sale_records};
+use crate::sale::{sale_records, sales_columns};
 use crate::void::{void_columns, void_records};
 use std::alloc::{AllocError, Global};
 use wh_day::ParseError;
@@ -38,7 +38,7 @@ pub fn read(
 
 /// The columns of a batch of this kind, in order: its header has their names, and each of its records a field for each. Voids
 /// have theirs in the first format too, which takes none. The error comes where memory ran out.
-pub fn columns<'a>(
+pub fn columns_of<'a>(
     alloc: Global,
     kind: Kind,
     policy: &'a Policy,
@@ -48,7 +48,7 @@ pub fn columns<'a>(
 {
     match kind {
         Kind::Dimension(dim) => dimension_columns(alloc, policy.attributes(dim)),
-        Kind::Sales => sale_columns(alloc, format),
+        Kind::Sales => sales_columns(alloc, format),
         Kind::Voids => void_columns(alloc),
     }
 }

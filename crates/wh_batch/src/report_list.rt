@@ -4,7 +4,7 @@ ghost use Rattle.std.specs.Prelude.{◌≡◌, [], ◌∷◌, IfOk, map};
 ghost use Rattle.wh_batch.specs.ReportList.{listed_report};
 
 use crate::entries::{Entry, EntryList};
-use crate::fields::text_of;
+use crate::fields::as_text;
 use std::alloc::{AllocError, Global};
 use wh_day::Value;
 
@@ -47,10 +47,10 @@ fn four_fields(
     ensures { IfOk result (λ report. report ≡ listed_report (attribute.now ∷ mode.now ∷ from.now ∷ to.now ∷ [])) }
 {
     let (Some(attribute), Some(mode), Some(from), Some(to)) = (
-        text_of(attribute),
-        text_of(mode),
-        text_of(from),
-        text_of(to),
+        as_text(attribute),
+        as_text(mode),
+        as_text(from),
+        as_text(to),
     ) else {
         return Ok(None);
     };

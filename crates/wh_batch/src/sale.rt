@@ -37,7 +37,10 @@ pub fn sale_records(
 }
 
 /// The columns of a sale; the first format has nine of them.
-pub(crate) fn sale_columns<'a>(alloc: Global, format: Format) -> Result<Vec<Column<'a>>, AllocError>
+pub(crate) fn sales_columns<'a>(
+    alloc: Global,
+    format: Format,
+) -> Result<Vec<Column<'a>>, AllocError>
     ensures { IfOk result (λ columns. columns.items ≡ sales_columns format) }
 {
     let all = [
@@ -73,11 +76,11 @@ impl RecordLayout for SalesLayout {
     ghost layout = { λ s. sales_layout s.format s.years };
 
     fn columns(&self, alloc: Global) -> Result<Vec<Column<'_>>, AllocError> {
-        sale_columns(alloc, self.format)
+        sales_columns(alloc, self.format)
     }
 
     fn read(&self, _alloc: Global, row: &ByteRecord) -> Result<SaleRecord, ParseError<FaultKind>> {
-        read_sale(self.format, row)
+        sale_record(self.format, row)
     }
 
     fn key(&self, record: &SaleRecord) -> RecordKey {
@@ -100,7 +103,7 @@ fn fields_of_a_sale(format: Format) -> usize
 }
 
 #[tactic(auto, unfolding(crate::specs::Layouts::sale_record))]
-fn read_sale(format: Format, row: &ByteRecord) -> Result<SaleRecord, ParseError<FaultKind>>
+fn sale_record(format: Format, row: &ByteRecord) -> Result<SaleRecord, ParseError<FaultKind>>
     ensures { Gives (λ r. r) result (sale_record format (fields_of row.now)) }
 {
     if row.len() != fields_of_a_sale(format) {

@@ -40,7 +40,7 @@ fn same_values(a: &[ValueRef<'_>], b: &[ValueRef<'_>]) -> bool
 }
 
 /// A row as the parameters of a statement. Only a lack of memory refuses a valid row.
-fn columns_of<T: Plain>(alloc: Global, row: &T::Row) -> Result<Vec<ValueRef<'_>>, AllocError>
+fn row_values<T: Plain>(alloc: Global, row: &T::Row) -> Result<Vec<ValueRef<'_>>, AllocError>
     ensures { IfOk result (λ values. bound values.items ≡ T.StoredTable.layout.encode row.now) }
 {
     match T::row(alloc, row) {
@@ -53,8 +53,8 @@ fn columns_of<T: Plain>(alloc: Global, row: &T::Row) -> Result<Vec<ValueRef<'_>>
 pub(crate) fn are_alike<T: Plain>(alloc: Global, a: &T::Row, b: &T::Row) -> Result<bool, AllocError>
     ensures { IfOk result (λ same. AreAlike T.StoredTable.layout a.now b.now same) }
 {
-    let first = columns_of::<T>(alloc, a)?;
-    let second = columns_of::<T>(alloc, b)?;
+    let first = row_values::<T>(alloc, a)?;
+    let second = row_values::<T>(alloc, b)?;
     Ok(same_values(&first, &second))
 }
 

@@ -3,7 +3,7 @@ use Rattle.std.specs.Prelude.{ℕ, Bool, true, false, pos, negsuc, codes, replic
 use Rattle.std.specs.List.{list_any}
 use Rattle.std.proofs.Common.{◌≡◌, refl}
 use Rattle.wh_day.proofs.OnLiterals.{day_on_literals}
-use Rattle.wh_day.specs.Calendar.{calendar_row}
+use Rattle.wh_day.specs.Calendar.{date_row}
 use Rattle.wh_day.specs.Day.{read_day, day_text, day_before, checked_day_before, day_of_key}
 use Rattle.wh_day.specs.Holidays.{is_on}
 use Rattle.wh_day.specs.Value.{read_value, unknown_text, no_card_text}
@@ -212,43 +212,43 @@ row key iso year quarter month day number weekday name weekend holiday = record 
   holiday = holiday;
 }
 
-leap_day : calendar_row holidays 20240229 ≡ row 20240229 (codes "2024-02-29") 2024 1 2 29 60 4 (codes "Thursday") false (codes "(none)")
+leap_day : date_row holidays 20240229 ≡ row 20240229 (codes "2024-02-29") 2024 1 2 29 60 4 (codes "Thursday") false (codes "(none)")
 unfolding day_on_literals
 leap_day = refl
 
-christmas : calendar_row holidays 20241225 ≡ row 20241225 (codes "2024-12-25") 2024 4 12 25 360 3 (codes "Wednesday") false (codes "Christmas Day")
+christmas : date_row holidays 20241225 ≡ row 20241225 (codes "2024-12-25") 2024 4 12 25 360 3 (codes "Wednesday") false (codes "Christmas Day")
 unfolding day_on_literals
 christmas = refl
 
-saturday : calendar_row holidays 20240608 ≡ row 20240608 (codes "2024-06-08") 2024 2 6 8 160 6 (codes "Saturday") true (codes "(none)")
+saturday : date_row holidays 20240608 ≡ row 20240608 (codes "2024-06-08") 2024 2 6 8 160 6 (codes "Saturday") true (codes "(none)")
 unfolding day_on_literals
 saturday = refl
 
-sunday : calendar_row holidays 20240609 ≡ row 20240609 (codes "2024-06-09") 2024 2 6 9 161 7 (codes "Sunday") true (codes "(none)")
+sunday : date_row holidays 20240609 ≡ row 20240609 (codes "2024-06-09") 2024 2 6 9 161 7 (codes "Sunday") true (codes "(none)")
 unfolding day_on_literals
 sunday = refl
 
-first_row : calendar_row [] 19000101 ≡ row 19000101 (codes "1900-01-01") 1900 1 1 1 1 1 (codes "Monday") false (codes "(none)")
+first_row : date_row [] 19000101 ≡ row 19000101 (codes "1900-01-01") 1900 1 1 1 1 1 (codes "Monday") false (codes "(none)")
 unfolding day_on_literals
 first_row = refl
 
-last_row : calendar_row [] 99991231 ≡ row 99991231 (codes "9999-12-31") 9999 4 12 31 365 5 (codes "Friday") false (codes "(none)")
+last_row : date_row [] 99991231 ≡ row 99991231 (codes "9999-12-31") 9999 4 12 31 365 5 (codes "Friday") false (codes "(none)")
 unfolding day_on_literals
 last_row = refl
 
-february_29_of_2000 : calendar_row [] 20000229 ≡ row 20000229 (codes "2000-02-29") 2000 1 2 29 60 2 (codes "Tuesday") false (codes "(none)")
+february_29_of_2000 : date_row [] 20000229 ≡ row 20000229 (codes "2000-02-29") 2000 1 2 29 60 2 (codes "Tuesday") false (codes "(none)")
 unfolding day_on_literals
 february_29_of_2000 = refl
 
-december_31_of_2000 : calendar_row [] 20001231 ≡ row 20001231 (codes "2000-12-31") 2000 4 12 31 366 7 (codes "Sunday") true (codes "(none)")
+december_31_of_2000 : date_row [] 20001231 ≡ row 20001231 (codes "2000-12-31") 2000 4 12 31 366 7 (codes "Sunday") true (codes "(none)")
 unfolding day_on_literals
 december_31_of_2000 = refl
 
-february_28_of_2100 : calendar_row [] 21000228 ≡ row 21000228 (codes "2100-02-28") 2100 1 2 28 59 7 (codes "Sunday") true (codes "(none)")
+february_28_of_2100 : date_row [] 21000228 ≡ row 21000228 (codes "2100-02-28") 2100 1 2 28 59 7 (codes "Sunday") true (codes "(none)")
 unfolding day_on_literals
 february_28_of_2100 = refl
 
-march_1_of_2100 : calendar_row [] 21000301 ≡ row 21000301 (codes "2100-03-01") 2100 1 3 1 60 1 (codes "Monday") false (codes "(none)")
+march_1_of_2100 : date_row [] 21000301 ≡ row 21000301 (codes "2100-03-01") 2100 1 3 1 60 1 (codes "Monday") false (codes "(none)")
 unfolding day_on_literals
 march_1_of_2100 = refl
 

@@ -32,8 +32,8 @@ abbrev pub is_weekend : ℕ → Bool
 is_weekend day = nat_le 6 (weekday_of day)
 
 -- the row of a day, whose holidays are these
-unfoldable pub calendar_row : List Holiday → ℕ → DateRow
-calendar_row holidays day = record {
+unfoldable pub date_row : List Holiday → ℕ → DateRow
+date_row holidays day = record {
   date_key = day;
   iso = day_text day;
   year = pos (year_of day);

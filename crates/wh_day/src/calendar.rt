@@ -2,7 +2,7 @@
 
 ghost use Rattle.std.specs.Prelude.{◌≡◌, ◌+◌, IfOk};
 ghost use Rattle.jiff_core.specs.Weekday.{monday_zero};
-ghost use Rattle.wh_day.specs.Calendar.{calendar_row, name_of_weekday};
+ghost use Rattle.wh_day.specs.Calendar.{date_row, name_of_weekday};
 ghost use Rattle.wh_day.specs.Day.{day_text};
 ghost use Rattle.wh_day.specs.Holidays.{holiday_text};
 
@@ -65,35 +65,35 @@ impl DateRow {
 }
 
 /// The row of a day in a calendar with these holidays.
-#[tactic(auto, unfolding(crate::specs::Calendar::calendar_row))]
+#[tactic(auto, unfolding(crate::specs::Calendar::date_row))]
 pub fn date_row(alloc: Global, day: Day, holidays: &Holidays) -> Result<DateRow, AllocError>
-    ensures { IfOk result (λ row. row ≡ calendar_row holidays.now day) }
+    ensures { IfOk result (λ row. row ≡ date_row holidays.now day) }
 {
     let date = day.to_date();
     let weekday = date.weekday();
     let number = weekday.to_monday_one_offset();
     Ok(DateRow {
         date_key: day,
-        iso: day_value(alloc, day)?,
+        iso: day_text(alloc, day)?,
         year: date.year() as i64,
         quarter: (date.month() as i64 + 2) / 3,
         month: date.month() as i64,
         day: date.day() as i64,
         day_of_year: date.day_of_year() as i64,
         weekday: number as i64,
-        weekday_name: Value::new(alloc, name_of(weekday))?,
+        weekday_name: Value::new(alloc, name_of_weekday(weekday))?,
         weekend: number >= 6,
-        holiday: holiday_value(alloc, day, holidays)?,
+        holiday: holiday_text(alloc, day, holidays)?,
     })
 }
 
-fn day_value(alloc: Global, day: Day) -> Result<Value, AllocError>
+fn day_text(alloc: Global, day: Day) -> Result<Value, AllocError>
     ensures { IfOk result (λ value. value ≡ day_text day) }
 {
     Ok(Value::of(format!(in alloc; "{day}")?))
 }
 
-fn name_of(weekday: Weekday) -> &'static str
+fn name_of_weekday(weekday: Weekday) -> &'static str
     ensures { result.now ≡ name_of_weekday (monday_zero weekday + 1) }
 {
     match weekday {
@@ -107,7 +107,7 @@ fn name_of(weekday: Weekday) -> &'static str
     }
 }
 
-fn holiday_value(alloc: Global, day: Day, holidays: &Holidays) -> Result<Value, AllocError>
+fn holiday_text(alloc: Global, day: Day, holidays: &Holidays) -> Result<Value, AllocError>
     ensures { IfOk result (λ value. value ≡ holiday_text holidays.now day) }
 {
     match holidays.name(day) {

@@ -74,7 +74,7 @@ impl Day {
         // The text of a day is read.
         ensures only { (day : ℕ) → is_day day ≡ true → text.now ≡ day_text day → result ≡ Some day }
     {
-        parse(text)
+        read_day(text)
     }
 
     /// 1900-01-01, the first day.
@@ -106,7 +106,7 @@ impl Day {
         ensures { result ≡ day_of_key key }
     {
         match u32::try_from(key) {
-            Ok(number) => of_number(number),
+            Ok(number) => day_of_number(number),
             Err(_) => None,
         }
     }
@@ -122,7 +122,7 @@ impl Day {
             return None;
         }
         match self.to_date().yesterday() {
-            Ok(date) => Some(of_date(date)),
+            Ok(date) => Some(date_number(date)),
             Err(_) => None,
         }
     }
@@ -140,7 +140,7 @@ impl Day {
     }
 }
 
-fn of_date(date: Date) -> Day
+fn date_number(date: Date) -> Day
     requires { pos 1900 ≤ℤ date.year }
     ensures { result ≡ date_number date }
 {
@@ -152,7 +152,7 @@ fn of_date(date: Date) -> Day
     }
 }
 
-fn of_number(number: u32) -> Option<Day>
+fn day_of_number(number: u32) -> Option<Day>
     ensures { result ≡ day_of_number number }
 {
     let year = number / 10_000;
@@ -168,7 +168,7 @@ fn of_number(number: u32) -> Option<Day>
 }
 
 #[tactic(auto, unfolding(crate::specs::Day::read_day))]
-fn parse(text: &[u8]) -> Option<Day>
+fn read_day(text: &[u8]) -> Option<Day>
     ensures { result ≡ read_day text.now }
 {
     let [y1, y2, y3, y4, b'-', m1, m2, b'-', d1, d2] = text else {
@@ -178,5 +178,5 @@ fn parse(text: &[u8]) -> Option<Day>
     let year = two_digits(*y3, *y4)?;
     let month = two_digits(*m1, *m2)?;
     let day = two_digits(*d1, *d2)?;
-    of_number((100 * century + year) * 10_000 + month * 100 + day)
+    day_of_number((100 * century + year) * 10_000 + month * 100 + day)
 }

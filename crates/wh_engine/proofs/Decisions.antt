@@ -20,8 +20,8 @@ use Rattle.wh_history.specs.Tables.{Limits}
 use Rattle.wh_history.proofs.Basics.{some_is}
 use Rattle.wh_rows.specs.declared.rows.CommandRow.{CommandRow}
 use Rattle.wh_rows.specs.Types.{is_key}
-use Rattle.wh_batch.specs.Kind.{command_word}
-use Rattle.wh_admission.specs.Admission.{records_told, sales_told, voids_told, policy_told, content_of, bytes_kept, current_policy, accepted_as, receipt_of, changes_in, upgrades_again, first_line_there, first_line_missing, number_past_lines, number_past_voids, number_for, answer_with, when_read, by_id, answer, with_content, after_answer, accepted_after}
+use Rattle.wh_batch.specs.Kind.{command_kind_word}
+use Rattle.wh_admission.specs.Admission.{judged_records, judged_sales, judged_voids, judged_policy, content_of, kept_bytes, current_policy, accepted_as, receipt_of, changes_in, upgrades_again, first_line_there, first_line_missing, number_past_lines, number_past_voids, number_for, answer_with, when_read, by_id, answer, with_content, after_answer, accepted_after}
 use Rattle.wh_engine.specs.Decided.{reply_to_known, IsNew}
 use Rattle.wh_model.specs.Defined.{command_at}
 use Rattle.wh_engine.specs.Faults.{Judges}
@@ -33,8 +33,8 @@ use Rattle.wh_engine.specs.declared.fault.Fault.{Fault}
 use Rattle.wh_engine.specs.declared.fault.Fault.TheVariants as faults
 use Rattle.wh_admission.specs.declared.command.Receipt.{Receipt}
 use Rattle.wh_admission.specs.declared.command.Reply.TheVariants.{Accepted as Accepts, Already}
-use Rattle.wh_admission.specs.declared.command.Refused.{Refused}
-use Rattle.wh_admission.specs.declared.command.Refused.TheVariants.{BadId, Upgraded, LineThere, NoLine, Full}
+use Rattle.wh_admission.specs.declared.command.Refusal.{Refusal}
+use Rattle.wh_admission.specs.declared.command.Refusal.TheVariants.{BadId, Upgraded, LineThere, NoLine, Full}
 use Rattle.wh_admission.specs.declared.command.Limit.TheVariants.{Commands, Changes, Facts}
 use Rattle.wh_plan.proofs.FoundCommands.{stored, told, find_numbered}
 use Rattle.wh_model.proofs.GrownKeys.{at_last}
@@ -114,7 +114,7 @@ module _ (limits : Limits) (commands : List Accepted) (accepted : IsAccepted lim
       go true full = at (leb-true limits.commands (length commands) full)
       go false room = below (leb-false limits.commands (length commands) room)
 
-  pub upgrade_refused : (why : Refused) → number_for limits commands no_records ≡ Err why → number_for limits commands Upgrades ≡ Err why
+  pub upgrade_refused : (why : Refusal) → number_for limits commands no_records ≡ Err why → number_for limits commands Upgrades ≡ Err why
   upgrade_refused why none =
       by_limit (number_for limits commands Upgrades ≡ Err why)
       (λ room. let never = sym (room_for_none room) ∙ none in absurd (cc))
@@ -195,11 +195,11 @@ module _ (limits : Limits) (commands : List Accepted) (c : Command) where
 
   module _ (good : is_key 40 c.id ≡ true) (new : IsNew commands c) where
     -- what it says is refused
-    content_refused : (why : Refused) → content_of c.kind (format_of commands) (current_policy commands) c.bytes ≡ Err why → answer limits commands c ≡ Err why
+    content_refused : (why : Refusal) → content_of c.kind (format_of commands) (current_policy commands) c.bytes ≡ Err why → answer limits commands c ≡ Err why
     content_refused why h = new_answer good new ∙ ap (when_read limits commands c) h
 
     -- there is no number for it
-    pub number_refused : (content : Content) (why : Refused) → content_of c.kind (format_of commands) (current_policy commands) c.bytes ≡ Ok content → number_for limits commands content ≡ Err why → answer limits commands c ≡ Err why
+    pub number_refused : (content : Content) (why : Refusal) → content_of c.kind (format_of commands) (current_policy commands) c.bytes ≡ Ok content → number_for limits commands content ≡ Err why → answer limits commands c ≡ Err why
     number_refused content why read none = new_answer good new ∙ ap (when_read limits commands c) read ∙ ap (answer_with commands c content) none
 
     module _ (content : Content) (read : content_of c.kind (format_of commands) (current_policy commands) c.bytes ≡ Ok content) (next : ℕ) (room : number_for limits commands content ≡ Ok next) where
@@ -217,41 +217,41 @@ module _ (limits : Limits) (commands : List Accepted) (c : Command) where
       pub own_receipt : receipt_of (after content) next content ≡ record { number = next; records = records_by content; placeholders = placeholders_by (after content) next content }
       own_receipt = refl
 
-      pub own_row : command_at (after content) (suc (length commands)) ≡ Some (record { number = next; id = c.id; kind = command_word c.kind; bytes = bytes_kept c.kind c.bytes; records = records_by content; placeholders = placeholders_by (after content) next content })
+      pub own_row : command_at (after content) (suc (length commands)) ≡ Some (record { number = next; id = c.id; kind = command_kind_word c.kind; bytes = kept_bytes c.kind c.bytes; records = records_by content; placeholders = placeholders_by (after content) next content })
       own_row =
           let longer : suc (length commands) ≡ length (after content) = omega (arith, length-append commands (accepted_as c content ∷ [])) in
           ap (λ (n : ℕ). option_map (stored (suc (length commands))) (option_map (told (after content) (suc (length commands))) (at_place n (after content)))) longer
           ∙ ap (λ (o : Option Accepted). option_map (stored (suc (length commands))) (option_map (told (after content) (suc (length commands))) o)) (at_last commands (accepted_as c content))
-          ∙ ap (λ (n : ℕ). Some (record { number = n; id = c.id; kind = command_word c.kind; bytes = bytes_kept c.kind c.bytes; records = records_by content; placeholders = placeholders_by (after content) n content })) (sym next_number)
+          ∙ ap (λ (n : ℕ). Some (record { number = n; id = c.id; kind = command_kind_word c.kind; bytes = kept_bytes c.kind c.bytes; records = records_by content; placeholders = placeholders_by (after content) n content })) (sym next_number)
 
     -- a batch of records, one of sales, one of voids, and a migration
 
     module _ (dim : Dim) (kind : c.kind ≡ Batch (Dimension dim)) where
-      pub records_content : (records : List DimensionRecord) → records_told dim (current_policy commands) c.bytes ≡ Ok records → content_of c.kind (format_of commands) (current_policy commands) c.bytes ≡ Ok (Describes dim records)
+      pub records_content : (records : List DimensionRecord) → judged_records dim (current_policy commands) c.bytes ≡ Ok records → content_of c.kind (format_of commands) (current_policy commands) c.bytes ≡ Ok (Describes dim records)
       records_content records read = ap (λ k. content_of k (format_of commands) (current_policy commands) c.bytes) kind ∙ ap (λ o. o >>= λ records. Ok (Describes dim records)) read
 
-      pub records_refused : (why : Refused) → records_told dim (current_policy commands) c.bytes ≡ Err why → answer limits commands c ≡ Err why
+      pub records_refused : (why : Refusal) → judged_records dim (current_policy commands) c.bytes ≡ Err why → answer limits commands c ≡ Err why
       records_refused why read = content_refused why (ap (λ k. content_of k (format_of commands) (current_policy commands) c.bytes) kind ∙ ap (λ o. o >>= λ records. Ok (Describes dim records)) read)
 
     module _ (kind : c.kind ≡ Batch Sales) where
-      pub sales_content : (sales : List SaleRecord) → sales_told (format_of commands) (current_policy commands) c.bytes ≡ Ok sales → content_of c.kind (format_of commands) (current_policy commands) c.bytes ≡ Ok (Sells sales)
+      pub sales_content : (sales : List SaleRecord) → judged_sales (format_of commands) (current_policy commands) c.bytes ≡ Ok sales → content_of c.kind (format_of commands) (current_policy commands) c.bytes ≡ Ok (Sells sales)
       sales_content sales read = ap (λ k. content_of k (format_of commands) (current_policy commands) c.bytes) kind ∙ ap (λ o. o >>= λ sales. Ok (Sells sales)) read
 
-      pub sales_refused : (why : Refused) → sales_told (format_of commands) (current_policy commands) c.bytes ≡ Err why → answer limits commands c ≡ Err why
+      pub sales_refused : (why : Refusal) → judged_sales (format_of commands) (current_policy commands) c.bytes ≡ Err why → answer limits commands c ≡ Err why
       sales_refused why read = content_refused why (ap (λ k. content_of k (format_of commands) (current_policy commands) c.bytes) kind ∙ ap (λ o. o >>= λ sales. Ok (Sells sales)) read)
 
     module _ (kind : c.kind ≡ Batch Voids) where
-      pub voids_content : (voids : List VoidRecord) → voids_told (format_of commands) c.bytes ≡ Ok voids → content_of c.kind (format_of commands) (current_policy commands) c.bytes ≡ Ok (Withdraws voids)
+      pub voids_content : (voids : List VoidRecord) → judged_voids (format_of commands) c.bytes ≡ Ok voids → content_of c.kind (format_of commands) (current_policy commands) c.bytes ≡ Ok (Withdraws voids)
       voids_content voids read = ap (λ k. content_of k (format_of commands) (current_policy commands) c.bytes) kind ∙ ap (λ o. o >>= λ voids. Ok (Withdraws voids)) read
 
-      pub voids_refused : (why : Refused) → voids_told (format_of commands) c.bytes ≡ Err why → answer limits commands c ≡ Err why
+      pub voids_refused : (why : Refusal) → judged_voids (format_of commands) c.bytes ≡ Err why → answer limits commands c ≡ Err why
       voids_refused why read = content_refused why (ap (λ k. content_of k (format_of commands) (current_policy commands) c.bytes) kind ∙ ap (λ o. o >>= λ voids. Ok (Withdraws voids)) read)
 
     module _ (kind : c.kind ≡ Migration) where
-      pub policy_content : (newer : Policy) → policy_told (current_policy commands) c.bytes ≡ Ok newer → content_of c.kind (format_of commands) (current_policy commands) c.bytes ≡ Ok (Governs newer)
+      pub policy_content : (newer : Policy) → judged_policy (current_policy commands) c.bytes ≡ Ok newer → content_of c.kind (format_of commands) (current_policy commands) c.bytes ≡ Ok (Governs newer)
       policy_content newer read = ap (λ k. content_of k (format_of commands) (current_policy commands) c.bytes) kind ∙ ap (λ o. o >>= λ newer. Ok (Governs newer)) read
 
-      pub policy_refused : (why : Refused) → policy_told (current_policy commands) c.bytes ≡ Err why → answer limits commands c ≡ Err why
+      pub policy_refused : (why : Refusal) → judged_policy (current_policy commands) c.bytes ≡ Err why → answer limits commands c ≡ Err why
       policy_refused why read = content_refused why (ap (λ k. content_of k (format_of commands) (current_policy commands) c.bytes) kind ∙ ap (λ o. o >>= λ newer. Ok (Governs newer)) read)
 
   pub upgrade_content : c.kind ≡ Upgrade → content_of c.kind (format_of commands) (current_policy commands) c.bytes ≡ Ok Upgrades
@@ -259,7 +259,7 @@ module _ (limits : Limits) (commands : List Accepted) (c : Command) where
 
   -- ---- the list after a command
 
-  pub after_refused : (why : Refused) → answer limits commands c ≡ Err why → accepted_after limits commands c ≡ commands
+  pub after_refused : (why : Refusal) → answer limits commands c ≡ Err why → accepted_after limits commands c ≡ commands
   after_refused why said = ap (after_answer commands c) said
 
   pub after_repeat : (receipt : Receipt) → answer limits commands c ≡ Ok (Already receipt) → accepted_after limits commands c ≡ commands
@@ -282,12 +282,12 @@ sound_in_force limits commands accepted = subst IsSoundIf (policy_in_force comma
 
 -- ---- an answer that was judged
 
-pub judged_ok : {X Y : Type 0} (fits : X → Y → Type 0) (x : X) (judged : Result Y Refused) → Judges fits (Ok x) judged → (y : Y) × (judged ≡ Ok y) × fits x y
+pub judged_ok : {X Y : Type 0} (fits : X → Y → Type 0) (x : X) (judged : Result Y Refusal) → Judges fits (Ok x) judged → (y : Y) × (judged ≡ Ok y) × fits x y
 judged_ok fits x (Ok y) h = (y, refl, h)
 judged_ok fits x (Err why) h = absurd h
 
 -- a refusal that was judged is one of what hangs on it
-pub judged_err : {X Y Z W : Type 0} (fits : X → Y → Type 0) (meets : Z → W → Type 0) (fault : Fault) (judged : Result Y Refused) (answered : Result W Refused) → Judges fits (Err fault) judged → ((why : Refused) → judged ≡ Err why → answered ≡ Err why) → Judges meets (Err fault) answered
+pub judged_err : {X Y Z W : Type 0} (fits : X → Y → Type 0) (meets : Z → W → Type 0) (fault : Fault) (judged : Result Y Refusal) (answered : Result W Refusal) → Judges fits (Err fault) judged → ((why : Refusal) → judged ≡ Err why → answered ≡ Err why) → Judges meets (Err fault) answered
 judged_err fits meets (faults.Refused why) judged answered h so = so why h
 judged_err fits meets faults.Memory judged answered h so = tt
 judged_err fits meets (faults.Store cause) judged answered h so = tt

@@ -12,7 +12,7 @@ use Rattle.wh_engine.specs.Delivered.{answers_to, AreAnswers, AreAsMany, IsDeliv
 use Rattle.wh_engine.specs.Redelivered.{receipt_answered, TellReceipts, IsDeliveredAgain}
 use Rattle.wh_admission.specs.declared.command.Command.{Command}
 use Rattle.wh_admission.specs.declared.command.Receipt.{Receipt}
-use Rattle.wh_admission.specs.declared.command.Refused.{Refused}
+use Rattle.wh_admission.specs.declared.command.Refusal.{Refusal}
 use Rattle.wh_admission.specs.declared.command.Reply.{Reply}
 use Rattle.wh_engine.specs.declared.fault.Fault.{Fault}
 use Rattle.wh_engine.specs.declared.fault.Fault.TheVariants as faults
@@ -23,7 +23,7 @@ use Rattle.wh_engine.proofs.Receipts.{told_again, refused_again}
 use Rattle.wh_engine.proofs.Redelivered.{left_of}
 use Rattle.wh_admission.proofs.Repeats.{acts_once}
 
-pub at_most_all : (sent : List Command) (answers : List (Result Reply Refused)) (stop : Option Fault) → AreAsMany sent answers stop → length answers ≤ length sent
+pub at_most_all : (sent : List Command) (answers : List (Result Reply Refusal)) (stop : Option Fault) → AreAsMany sent answers stop → length answers ≤ length sent
 at_most_all sent answers None many = omega (arith, many)
 at_most_all sent answers (Some (faults.Refused why)) many = omega (arith, many)
 at_most_all sent answers (Some (faults.Damaged table)) many = omega (arith, many)
@@ -35,13 +35,13 @@ at_most_all sent answers (Some faults.Reopen) many = let none = ap length many i
 module _ (limits : Limits) where
   -- ---- receipts
 
-  told_the_same : (held : List Accepted) (c : Command) (a : Result Reply Refused) → answer limits (accepted_after limits held c) c ≡ a → receipt_answered a ≡ receipt_answered (answer limits held c)
+  told_the_same : (held : List Accepted) (c : Command) (a : Result Reply Refusal) → answer limits (accepted_after limits held c) c ≡ a → receipt_answered a ≡ receipt_answered (answer limits held c)
   told_the_same held c (Ok reply) is =
       let has = told_again limits held c reply is in
       ap Ok has.same ∙ ap receipt_answered (sym has.said)
   told_the_same held c (Err why) is = ap receipt_answered (sym (refused_again limits held c why is))
 
-  abbrev receipts_to : List Accepted → List Command → List (Result Receipt Refused)
+  abbrev receipts_to : List Accepted → List Command → List (Result Receipt Refusal)
   receipts_to held sent = map receipt_answered (answers_to limits held sent)
 
   first_again : (held : List Accepted) (c : Command) (sent : List Command) → receipts_to (accepted_after limits held c) (c ∷ sent) ≡ receipts_to held (c ∷ sent)
@@ -68,7 +68,7 @@ module _ (limits : Limits) where
 
     -- ---- what a delivery leaves
 
-    pub are_answers : (answers : List (Result Reply Refused)) (stop : Option Fault) (session : Session) (s : State) → IsDelivered limits commands sent answers stop session s → AreAnswers limits commands sent answers
+    pub are_answers : (answers : List (Result Reply Refusal)) (stop : Option Fault) (session : Session) (s : State) → IsDelivered limits commands sent answers stop session s → AreAnswers limits commands sent answers
     are_answers answers None session s done =
         let count : length answers ≡ length sent = ap length done.0 ∙ as_many_answers limits commands sent in
         done.0 ∙ ap (answers_to limits commands) (sym (take_all (length answers) sent (omega (arith, count))))
@@ -78,7 +78,7 @@ module _ (limits : Limits) where
     are_answers answers (Some (faults.Damaged table)) session s done = absurd done
     are_answers answers (Some faults.Reopen) session s done = absurd done
 
-    pub delivery_leaves : (answers : List (Result Reply Refused)) (stop : Option Fault) (session : Session) (s : State) → IsDelivered limits commands sent answers stop session s
+    pub delivery_leaves : (answers : List (Result Reply Refusal)) (stop : Option Fault) (session : Session) (s : State) → IsDelivered limits commands sent answers stop session s
         → LeavesOneOf limits (after (length answers)) (after (suc (length answers))) s
     delivery_leaves answers None session s done =
         let count : length answers ≡ length sent = ap length done.0 ∙ as_many_answers limits commands sent in
@@ -92,7 +92,7 @@ module _ (limits : Limits) where
 
     -- ---- the second delivery
 
-    module _ (first : List (Result Reply Refused)) (are : AreAnswers limits commands sent first) (found : List Accepted) (at : IsBeginning limits commands sent (length first) found) (second : List (Result Reply Refused)) where
+    module _ (first : List (Result Reply Refusal)) (are : AreAnswers limits commands sent first) (found : List Accepted) (at : IsBeginning limits commands sent (length first) found) (second : List (Result Reply Refusal)) where
       abbrev n : ℕ
       n = length first
 

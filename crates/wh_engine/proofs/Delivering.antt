@@ -10,7 +10,7 @@ use Rattle.wh_engine.specs.Delivered.{answers_to, answer_or_stop, AcceptsNothing
 use Rattle.wh_engine.specs.Faults.{stops}
 use Rattle.wh_engine.specs.Nights.{DeliveriesJoin}
 use Rattle.wh_admission.specs.declared.command.Command.{Command}
-use Rattle.wh_admission.specs.declared.command.Refused.{Refused}
+use Rattle.wh_admission.specs.declared.command.Refusal.{Refusal}
 use Rattle.wh_admission.specs.declared.command.Reply.{Reply}
 use Rattle.wh_admission.specs.declared.command.Reply.TheVariants.{Accepted as Accepts, Already}
 use Rattle.wh_engine.specs.declared.fault.Fault.{Fault}
@@ -33,7 +33,7 @@ as_many_answers limits commands (c ∷ sent) = ap suc (as_many_answers limits (a
 
 -- ---- one answer
 
-pub goes_on : (limits : Limits) (commands : List Accepted) (c : Command) (answered : Result Reply Fault) (told : Result Reply Refused) (session : Session) (s : State)
+pub goes_on : (limits : Limits) (commands : List Accepted) (c : Command) (answered : Result Reply Fault) (told : Result Reply Refusal) (session : Session) (s : State)
     → IsAnswered limits commands c answered session s → answer_or_stop answered ≡ Ok told → (told ≡ answer limits commands c) × IsReady limits (accepted_after limits commands c) session s
 goes_on limits commands c (Ok reply) told session s is e =
     let same : told ≡ Ok reply = cc in
@@ -47,7 +47,7 @@ goes_on limits commands c (Err (faults.Store cause)) told session s is e = absur
 goes_on limits commands c (Err faults.Reopen) told session s is e = absurd is
 
 -- an answer is no refusal of the store
-pub not_stopped : (answered : Result Reply Fault) (told : Result Reply Refused) → answer_or_stop answered ≡ Ok told → stops answered ≡ false
+pub not_stopped : (answered : Result Reply Fault) (told : Result Reply Refusal) → answer_or_stop answered ≡ Ok told → stops answered ≡ false
 not_stopped (Ok reply) told e = refl
 not_stopped (Err (faults.Refused why)) told e = refl
 not_stopped (Err (faults.Damaged table)) told e = refl
@@ -56,7 +56,7 @@ not_stopped (Err (faults.Store cause)) told e = absurd cc
 not_stopped (Err faults.Reopen) told e = refl
 
 -- an answer that accepts nothing keeps what there was
-pub keeps : (answered : Result Reply Fault) (told : Result Reply Refused) → answer_or_stop answered ≡ Ok told → AcceptsNothing told → KeepsNothing answered × IsNotAccepted answered
+pub keeps : (answered : Result Reply Fault) (told : Result Reply Refusal) → answer_or_stop answered ≡ Ok told → AcceptsNothing told → KeepsNothing answered × IsNotAccepted answered
 keeps (Ok (Accepts receipt)) told e nothing = absurd (let same : told ≡ Ok (Accepts receipt) = cc in subst AcceptsNothing same nothing)
 keeps (Ok (Already receipt)) told e nothing = (tt, tt)
 keeps (Err (faults.Refused why)) told e nothing = (tt, tt)
@@ -85,7 +85,7 @@ stop_is (Err faults.Reopen) fault e = cc
 
 -- ---- the end of a delivery
 
-pub stopped_at : (limits : Limits) (held : List Accepted) (sent : List Command) (c : Command) (answers : List (Result Reply Refused)) (answered : Result Reply Fault) (fault : Fault) (session : Session) (s : State)
+pub stopped_at : (limits : Limits) (held : List Accepted) (sent : List Command) (c : Command) (answers : List (Result Reply Refusal)) (answered : Result Reply Fault) (fault : Fault) (session : Session) (s : State)
     → answers ≡ answers_to limits held (take (length answers) sent) → length answers < length sent → take (suc (length answers)) sent ≡ take (length answers) sent ++ c ∷ []
     → IsAnswered limits (accepted_after_all limits held (take (length answers) sent)) c answered session s → answer_or_stop answered ≡ Err fault → IsDelivered limits held sent answers (Some fault) session s
 stopped_at limits held sent c answers (Ok reply) fault session s are within more is e = absurd cc
@@ -103,7 +103,7 @@ stopped_at limits held sent c answers (Err faults.Reopen) fault session s are wi
 
 -- ---- lists that accept nothing
 
-pub nothing_before : (answers : List (Result Reply Refused)) (told : Result Reply Refused) → AcceptNothing (answers ++ told ∷ []) → AcceptNothing answers × AcceptsNothing told
+pub nothing_before : (answers : List (Result Reply Refusal)) (told : Result Reply Refusal) → AcceptNothing (answers ++ told ∷ []) → AcceptNothing answers × AcceptsNothing told
 nothing_before [] told all = (tt, all.0)
 nothing_before (a ∷ answers) told all =
     let rest = nothing_before answers told all.1 in
@@ -119,7 +119,7 @@ policy_stays old new c (Err fault) governed none = governed
 
 module _ {X : Type 0} (Leads : X → X → Command → Result Reply Fault → Type 0) where
   -- after one more command
-  pub led_on : (old mid new : X) (answers : List (Result Reply Refused)) (told : Result Reply Refused) (sent : List Command) (c : Command)
+  pub led_on : (old mid new : X) (answers : List (Result Reply Refusal)) (told : Result Reply Refusal) (sent : List Command) (c : Command)
       → AreLed Leads old mid answers sent → length sent ≡ length answers → Leads mid new c (as_called told) → AreLed Leads old new (answers ++ told ∷ []) (sent ++ c ∷ [])
   led_on old mid new [] told [] c so same is = (new, subst (λ p. Leads p new c (as_called told)) so is, refl)
   led_on old mid new [] told (d ∷ sent) c so same is = absurd (omega (arith, same))
@@ -127,7 +127,7 @@ module _ {X : Type 0} (Leads : X → X → Command → Result Reply Fault → Ty
   led_on old mid new (a ∷ answers) told (d ∷ sent) c so same is = (so.0, so.1, led_on so.0 mid new answers told sent c so.2 (omega (arith, same)) is)
 
   -- of commands that have their answers, among more of them
-  pub led_among : (old new : X) (answers : List (Result Reply Refused)) (sent more : List Command) → AreLed Leads old new answers sent → AreLed Leads old new answers (sent ++ more)
+  pub led_among : (old new : X) (answers : List (Result Reply Refusal)) (sent more : List Command) → AreLed Leads old new answers sent → AreLed Leads old new answers (sent ++ more)
   led_among old new [] sent more so = so
   led_among old new (a ∷ answers) [] more so = absurd so
   led_among old new (a ∷ answers) (c ∷ sent) more so = (so.0, so.1, led_among so.0 new answers sent more so.2)
@@ -142,7 +142,7 @@ flag_at_stop faults.Reopen = refl
 
 -- ---- how many are answered
 
-pub many_at_stop : (sent : List Command) (answers : List (Result Reply Refused)) (fault : Fault) → fault ≢ faults.Reopen → length answers < length sent → AreAsMany sent answers (Some fault)
+pub many_at_stop : (sent : List Command) (answers : List (Result Reply Refusal)) (fault : Fault) → fault ≢ faults.Reopen → length answers < length sent → AreAsMany sent answers (Some fault)
 many_at_stop sent answers (faults.Refused why) ready within = within
 many_at_stop sent answers (faults.Damaged table) ready within = within
 many_at_stop sent answers faults.Memory ready within = inr within
@@ -152,7 +152,7 @@ many_at_stop sent answers faults.Reopen ready within = absurd (ready refl)
 -- ---- how many keys are written
 
 -- an answer is that of the call
-pub called : (answered : Result Reply Fault) (told : Result Reply Refused) → answer_or_stop answered ≡ Ok told → answered ≡ as_called told
+pub called : (answered : Result Reply Fault) (told : Result Reply Refusal) → answer_or_stop answered ≡ Ok told → answered ≡ as_called told
 called (Ok reply) told e = let same : told ≡ Ok reply = cc in ap as_called (sym same)
 called (Err (faults.Refused why)) told e = let same : told ≡ Err why = cc in ap as_called (sym same)
 called (Err (faults.Damaged table)) told e = absurd cc

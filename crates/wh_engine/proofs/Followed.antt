@@ -3,10 +3,10 @@ use Rattle.std.proofs.Common.{◌≡◌, ◌≢◌, ℕ, suc, ◌==◌, nat_eq, 
 use Rattle.std.specs.Prelude.{find, bytes_eq, codes}
 use Rattle.std.proofs.lemmas.Bool.{and_parts}
 use Rattle.std.proofs.lemmas.Slice.Eq.{bytes_eq-Decides}
-use Rattle.wh_policy.specs.Policy.{policy_at}
+use Rattle.wh_policy.specs.Policy.{read_policy}
 use Rattle.wh_policy.specs.declared.policy.Policy.{Policy}
 use Rattle.wh_policy.specs.declared.fault.PolicyFault.{PolicyFault}
-use Rattle.wh_batch.specs.Kind.{command_word, command_kind_of}
+use Rattle.wh_batch.specs.Kind.{command_kind_word, command_kind_of_word}
 use Rattle.wh_batch.specs.declared.kind.CommandKind.{CommandKind}
 use Rattle.wh_history.specs.Accepted.{Accepted, Content, format_of}
 use Rattle.wh_history.specs.Tables.{Limits}
@@ -15,13 +15,13 @@ use Rattle.wh_model.specs.Defined.{command_at}
 use Rattle.wh_model.specs.Sound.{making_of}
 use Rattle.wh_rows.specs.Types.{is_key}
 use Rattle.wh_rows.specs.declared.rows.CommandRow.{CommandRow}
-use Rattle.wh_admission.specs.Admission.{current_policy, bytes_kept, content_of, number_for, accepted_as, receipt_of, when_read, answer, with_content, after_answer, accepted_after, AreAdmitted}
+use Rattle.wh_admission.specs.Admission.{current_policy, kept_bytes, content_of, number_for, accepted_as, receipt_of, when_read, answer, with_content, after_answer, accepted_after, AreAdmitted}
 use Rattle.wh_admission.specs.Steps.{ComesAfter, IsNextRow}
 use Rattle.wh_admission.specs.declared.command.Command.{Command}
 use Rattle.wh_admission.specs.declared.command.Receipt.{Receipt}
 use Rattle.wh_admission.specs.declared.command.Reply.{Reply}
 use Rattle.wh_admission.specs.declared.command.Reply.TheVariants.{Accepted as Accepts, Already}
-use Rattle.wh_admission.specs.declared.command.Refused.{Refused}
+use Rattle.wh_admission.specs.declared.command.Refusal.{Refusal}
 use Rattle.wh_admission.proofs.CommandRows.{row_of, row_is, word_is}
 use Rattle.wh_admission.proofs.AdmittedSteps.{stepped, parted, admitted_with}
 use Rattle.wh_admission.proofs.CheckedTables.{kind_again}
@@ -62,15 +62,15 @@ abbrev pub receipt_in : CommandRow → Receipt
 receipt_in row = record { number = row.number; records = row.records; placeholders = row.placeholders }
 
 -- a command that is accepted, with its receipt
-module _ (limits : Limits) (commands : List Accepted) (row : CommandRow) (kind : CommandKind) (word : row.kind ≡ command_word kind) (kept : bytes_kept kind row.bytes ≡ row.bytes) (Holds : List Accepted → Type 0) (admitted : AreAdmitted limits commands) where
+module _ (limits : Limits) (commands : List Accepted) (row : CommandRow) (kind : CommandKind) (word : row.kind ≡ command_kind_word kind) (kept : kept_bytes kind row.bytes ≡ row.bytes) (Holds : List Accepted → Type 0) (admitted : AreAdmitted limits commands) where
   abbrev c : Command
   c = sent row kind
 
-  by_content : (read : Result Content Refused) → content_of kind (format_of commands) (current_policy commands) row.bytes ≡ read → is_key 40 row.id ≡ true → find (λ (a : Accepted). bytes_eq a.id row.id) commands ≡ None
+  by_content : (read : Result Content Refusal) → content_of kind (format_of commands) (current_policy commands) row.bytes ≡ read → is_key 40 row.id ≡ true → find (λ (a : Accepted). bytes_eq a.id row.id) commands ≡ None
       → when_read limits commands c read ≡ Ok (Accepts (receipt_in row)) → Holds (with_content commands c read) → IsFollowed limits commands row Holds true
   by_content (Err why) told good new h holds = absurd (never h)
     where
-      never : ◌≡◌ {A = Result Reply Refused} (Err why) (Ok (Accepts (receipt_in row))) → ⊥
+      never : ◌≡◌ {A = Result Reply Refusal} (Err why) (Ok (Accepts (receipt_in row))) → ⊥
       never h = cc
   by_content (Ok content) told good new h holds =
       let a = accepted_as c content in
@@ -105,8 +105,8 @@ module _ (limits : Limits) (commands : List Accepted) (row : CommandRow) (kind :
 
 record IsNextCommand (limits : Limits) (commands : List Accepted) (row : CommandRow) : Type 0 where
   kind : CommandKind
-  kind_is : command_kind_of row.kind ≡ Some kind
-  kept : bytes_kept kind row.bytes ≡ row.bytes
+  kind_is : command_kind_of_word row.kind ≡ Some kind
+  kept : kept_bytes kind row.bytes ≡ row.bytes
   answered : answer limits commands (sent row kind) ≡ Ok (Accepts (receipt_in row))
 
 next_answered : (limits : Limits) (commands : List Accepted) (a : Accepted) (comes : ComesAfter limits commands a) → answer limits commands (record { id = a.id; kind = comes.kind; bytes = a.bytes }) ≡ Ok (Accepts (last_receipt commands a))
@@ -123,7 +123,7 @@ next_command limits [] a more row begun admitted is = absurd (none (stepped limi
 next_command limits (b ∷ commands) a more row begun admitted is =
     let comes = (parted limits b commands (a ∷ more) admitted).come.0 in
     subst (IsNextCommand limits (b ∷ commands)) (sym (row_told (b ∷ commands) a more row is))
-    (record { kind = comes.kind; kind_is = ap command_kind_of comes.kind_is ∙ kind_again comes.kind; kept = comes.kept; answered = next_answered limits (b ∷ commands) a comes })
+    (record { kind = comes.kind; kind_is = ap command_kind_of_word comes.kind_is ∙ kind_again comes.kind; kept = comes.kept; answered = next_answered limits (b ∷ commands) a comes })
 
 -- ---- what is told of a row
 
@@ -144,11 +144,11 @@ says_itself : (row : CommandRow) → says_row (receipt_in row) row ≡ true
 says_itself row = let number = eq_itself row.number in let records = eq_itself row.records in let placeholders = eq_itself row.placeholders in λ i. (number i && records i) && placeholders i
 
 module _ (limits : Limits) (commands : List Accepted) (row : CommandRow) (Holds : List Accepted → Type 0) (begun : AreAdmitted limits commands) where
-  same_kind : (k l : CommandKind) → command_kind_of row.kind ≡ Some k → command_kind_of row.kind ≡ Some l → k ≡ l
+  same_kind : (k l : CommandKind) → command_kind_of_word row.kind ≡ Some k → command_kind_of_word row.kind ≡ Some l → k ≡ l
   same_kind k l one other = some_is k l (sym one ∙ other)
 
   -- the word is that of no kind
-  pub no_kind : command_kind_of row.kind ≡ None → IsFollowed limits commands row Holds false
+  pub no_kind : command_kind_of_word row.kind ≡ None → IsFollowed limits commands row Holds false
   no_kind none a more admitted is =
       let next = next_command limits commands a more row begun admitted is in
       absurd (never next.kind (sym none ∙ next.kind_is))
@@ -156,20 +156,20 @@ module _ (limits : Limits) (commands : List Accepted) (row : CommandRow) (Holds 
       never : (k : CommandKind) → None ≡ Some k → ⊥
       never k h = cc
 
-  module _ (kind : CommandKind) (told : command_kind_of row.kind ≡ Some kind) where
+  module _ (kind : CommandKind) (told : command_kind_of_word row.kind ≡ Some kind) where
     said_so : (a : Accepted) (more : List Accepted) → AreAdmitted limits (commands ++ a ∷ more) → command_at (commands ++ a ∷ more) (suc (length commands)) ≡ Some row → answer limits commands (sent row kind) ≡ Ok (Accepts (receipt_in row))
     said_so a more admitted is =
         let next = next_command limits commands a more row begun admitted is in
         subst (λ k. answer limits commands (sent row k) ≡ Ok (Accepts (receipt_in row))) (same_kind next.kind kind next.kind_is told) next.answered
 
     -- it has bytes that aren't kept
-    pub other_bytes : bytes_kept kind row.bytes ≢ row.bytes → IsFollowed limits commands row Holds false
+    pub other_bytes : kept_bytes kind row.bytes ≢ row.bytes → IsFollowed limits commands row Holds false
     other_bytes other a more admitted is =
         let next = next_command limits commands a more row begun admitted is in
-        other (subst (λ k. bytes_kept k row.bytes ≡ row.bytes) (same_kind next.kind kind next.kind_is told) next.kept)
+        other (subst (λ k. kept_bytes k row.bytes ≡ row.bytes) (same_kind next.kind kind next.kind_is told) next.kept)
 
     -- it is accepted: its receipt is that of the row or isn't
-    pub is_accepted : bytes_kept kind row.bytes ≡ row.bytes → (receipt : Receipt) (taken : Bool) → answer limits commands (sent row kind) ≡ Ok (Accepts receipt) → taken ≡ says_row receipt row → Holds (accepted_after limits commands (sent row kind)) → IsFollowed limits commands row Holds taken
+    pub is_accepted : kept_bytes kind row.bytes ≡ row.bytes → (receipt : Receipt) (taken : Bool) → answer limits commands (sent row kind) ≡ Ok (Accepts receipt) → taken ≡ says_row receipt row → Holds (accepted_after limits commands (sent row kind)) → IsFollowed limits commands row Holds taken
     is_accepted kept receipt true said is holds =
         accepted_row limits commands row kind (word_is row.kind kind told) kept Holds begun (said ∙ ap (λ r. Ok (Accepts r)) (says_is receipt row (sym is))) holds
     is_accepted kept receipt false said is holds = λ a more admitted own.
@@ -177,21 +177,21 @@ module _ (limits : Limits) (commands : List Accepted) (row : CommandRow) (Holds 
         let never : true ≡ false = sym (says_itself row) ∙ ap (λ r. says_row r row) (sym same) ∙ sym is in
         absurd (cc)
       where
-        receipts : (r s : Receipt) → ◌≡◌ {A = Result Reply Refused} (Ok (Accepts r)) (Ok (Accepts s)) → r ≡ s
+        receipts : (r s : Receipt) → ◌≡◌ {A = Result Reply Refusal} (Ok (Accepts r)) (Ok (Accepts s)) → r ≡ s
         receipts r s h = cc
 
     -- it came before
     pub is_again : (receipt : Receipt) → answer limits commands (sent row kind) ≡ Ok (Already receipt) → IsFollowed limits commands row Holds false
     is_again receipt said a more admitted own = absurd (never (receipt_in row) (sym said ∙ said_so a more admitted own))
       where
-        never : (r : Receipt) → ◌≡◌ {A = Result Reply Refused} (Ok (Already receipt)) (Ok (Accepts r)) → ⊥
+        never : (r : Receipt) → ◌≡◌ {A = Result Reply Refusal} (Ok (Already receipt)) (Ok (Accepts r)) → ⊥
         never r h = cc
 
     -- it is refused
-    pub is_refused : (why : Refused) → answer limits commands (sent row kind) ≡ Err why → IsFollowed limits commands row Holds false
+    pub is_refused : (why : Refusal) → answer limits commands (sent row kind) ≡ Err why → IsFollowed limits commands row Holds false
     is_refused why said a more admitted own = absurd (never (receipt_in row) (sym said ∙ said_so a more admitted own))
       where
-        never : (r : Receipt) → ◌≡◌ {A = Result Reply Refused} (Err why) (Ok (Accepts r)) → ⊥
+        never : (r : Receipt) → ◌≡◌ {A = Result Reply Refusal} (Err why) (Ok (Accepts r)) → ⊥
         never r h = cc
 
 -- ---- the making
@@ -234,7 +234,7 @@ made_next limits row policy is admitted =
 record IsFirstRow (row : CommandRow) : Type 0 where
   is_making : is_making_row row ≡ true
   policy : Policy
-  written : policy_at row.bytes ≡ Ok policy
+  written : read_policy row.bytes ≡ Ok policy
 
 first_row : (limits : Limits) (a : Accepted) (more : List Accepted) (row : CommandRow) → AreAdmitted limits (a ∷ more) → command_at (a ∷ more) 1 ≡ Some row → IsFirstRow row
 unfolding making_row
@@ -253,7 +253,7 @@ no_making limits row isnt a more admitted is =
     let never : true ≡ false = sym (first_row limits a more row admitted is).is_making ∙ isnt in
     absurd (cc)
 
-pub no_policy : (limits : Limits) (row : CommandRow) (fault : PolicyFault) → policy_at row.bytes ≡ Err fault → (a : Accepted) (more : List Accepted) → AreAdmitted limits (a ∷ more) → command_at (a ∷ more) 1 ≢ Some row
+pub no_policy : (limits : Limits) (row : CommandRow) (fault : PolicyFault) → read_policy row.bytes ≡ Err fault → (a : Accepted) (more : List Accepted) → AreAdmitted limits (a ∷ more) → command_at (a ∷ more) 1 ≢ Some row
 no_policy limits row fault isnt a more admitted is =
     let first = first_row limits a more row admitted is in
     absurd (never first.policy (sym isnt ∙ first.written))

@@ -3,7 +3,7 @@ use Rattle.std.proofs.Common.{◌≡◌, ◌⊎◌, inl, inr, ℕ, suc, ◌+◌,
 use Rattle.std.specs.Prelude.{filter_map}
 use Rattle.std.specs.List.{AllByRecursion, range_with_len}
 use Rattle.std.proofs.lemmas.Grind.{reverse_onto}
-use Rattle.wh_policy.specs.Policy.{policy_at}
+use Rattle.wh_policy.specs.Policy.{read_policy}
 use Rattle.wh_policy.specs.declared.policy.Policy.{Policy}
 use Rattle.wh_history.specs.Accepted.{Accepted, Content, Governs, Describes, Sells, Upgrades, Withdraws, governed, policy_after}
 use Rattle.wh_history.specs.Keys.{at_place}
@@ -28,7 +28,7 @@ givers rows = filter (λ (r : CommandRow). gives_policy r.kind) rows
 -- the last of these rows that gives a policy gives what is in force after them; or none gives one, and what was in force stays
 abbrev pub LastGives : List CommandRow → Option Policy → Option Policy → Type 0
 LastGives rows before after =
-    ((givers rows ≡ []) × (after ≡ before)) ⊎ ((row : CommandRow) × (policy : Policy) × (slice_get (reverse (givers rows)) 0 ≡ Some row) × (policy_at row.bytes ≡ Ok policy) × (after ≡ Some policy))
+    ((givers rows ≡ []) × (after ≡ before)) ⊎ ((row : CommandRow) × (policy : Policy) × (slice_get (reverse (givers rows)) 0 ≡ Some row) × (read_policy row.bytes ≡ Ok policy) × (after ≡ Some policy))
 
 -- a row in front of them is not the last
 last_behind : (first : CommandRow) (rows : List CommandRow) (row : CommandRow) → slice_get (reverse (givers rows)) 0 ≡ Some row → slice_get (reverse (givers (first ∷ rows))) 0 ≡ Some row

@@ -6,7 +6,7 @@ use Rattle.std.specs.FinMap.{empty, get, get-empty, nat_cmp-IsAntisymmetric}
 use Rattle.std.specs.Ordering.{nat_cmp}
 use Rattle.std.proofs.lemmas.Bool.{and_parts, leb-true, le-leb, cases_Bool}
 use Rattle.std.proofs.lemmas.Cmp.{nat_cmp_total}
-use Rattle.wh_day.specs.Calendar.{calendar_row}
+use Rattle.wh_day.specs.Calendar.{date_row}
 use Rattle.wh_day.specs.Day.{is_day, day_of_number, year_of}
 use Rattle.wh_day.specs.declared.calendar.DateRow.{DateRow}
 use Rattle.wh_day.proofs.Days.{parts, number_is}
@@ -42,7 +42,7 @@ next policy number end within =
     let len : end - number ≡ suc (end - (number + 1)) = omega arith in
     rw len refl
 
-day_of : (policy : Policy) (number : ℕ) → is_day number ≡ true → policy.years.first ≤ year_of number → year_of number ≤ policy.years.last → day_at policy number ≡ Some (calendar_row policy.holidays number)
+day_of : (policy : Policy) (number : ℕ) → is_day number ≡ true → policy.years.first ≤ year_of number → year_of number ≤ policy.years.last → day_at policy number ≡ Some (date_row policy.holidays number)
 day_of policy number found from to = rw (found, le-leb _ _ from, le-leb _ _ to) refl
 
 no_day_of : (policy : Policy) (number : ℕ) → is_day number ≡ false → day_at policy number ≡ None
@@ -50,14 +50,14 @@ no_day_of policy number missing = rw missing refl
 
 pub one_day : (policy : Policy) (number end day : ℕ) (items : List DateRow) (found : DateRow)
     → policy.years.first * 10000 + 101 ≤ number → end ≡ policy.years.last * 10000 + 1232 → number < end
-    → day_of_number number ≡ Some day → found ≡ calendar_row policy.holidays day → items ++ rows_from policy number end ≡ calendar_rows policy
+    → day_of_number number ≡ Some day → found ≡ date_row policy.holidays day → items ++ rows_from policy number end ≡ calendar_rows policy
     → (items ++ found ∷ []) ++ rows_from policy (number + 1) end ≡ calendar_rows policy
 one_day policy number end day items found from to within is row whole =
     elim (cases_Bool (is_day number)) [
       | inl there ↦
           let here : number ≡ day = some_is number day (rw there at is) in
           let at = day_of policy number there (omega arith) (omega arith) in
-          let same : found ≡ calendar_row policy.holidays number = row ∙ ap (calendar_row policy.holidays) (sym here) in
+          let same : found ≡ date_row policy.holidays number = row ∙ ap (date_row policy.holidays) (sym here) in
           append_assoc items (found ∷ []) (rows_from policy (number + 1) end) ∙ ap (λ r. items ++ r ∷ rows_from policy (number + 1) end) same
           ∙ ap (λ o. items ++ cons_option o (rows_from policy (number + 1) end)) (sym at) ∙ ap (λ rest. items ++ rest) (sym (next policy number end within)) ∙ whole
       | inr missing ↦ let none : None ≡ Some day = rw missing at is in absurd (cc)

@@ -1,7 +1,7 @@
 -- The rows of a making may be put into new tables, which are then those of the one command.
 use Rattle.std.proofs.Common.{◌≡◌, ℕ, List, [], ◌∷◌}
 use Rattle.wh_day.specs.declared.calendar.DateRow.{DateRow}
-use Rattle.wh_policy.specs.Policy.{types_of}
+use Rattle.wh_policy.specs.Policy.{policy_types}
 use Rattle.wh_policy.specs.declared.attribute.Dim.TheVariants.{Customer}
 use Rattle.wh_policy.specs.declared.policy.Policy.{Policy}
 use Rattle.wh_history.specs.Tables.{Limits, no_card_row}
@@ -20,7 +20,7 @@ pub record AreFirst (limits : Limits) (policy : Policy) (bytes : List ℕ) (of_c
   pub are : AreOf limits (making_of policy bytes ∷ []) (with_first of_command of_customer of_profile of_calendar (made_with limits))
 
 pub are_first : (limits : Limits) (policy : Policy) (bytes : List ℕ) (command : CommandRow) (customer : DimRow) (profiles : List ProfileRow) (calendar : List DateRow)
-    → command ≡ making_row bytes → customer ≡ no_card_row (types_of policy Customer) → profiles ≡ first_profiles (types_of policy Customer) → calendar ≡ calendar_rows policy
+    → command ≡ making_row bytes → customer ≡ no_card_row (policy_types policy Customer) → profiles ≡ first_profiles (policy_types policy Customer) → calendar ≡ calendar_rows policy
     → AreFirst limits policy bytes command customer profiles calendar
 are_first limits policy bytes command customer profiles calendar is_command is_customer is_profiles is_calendar =
     rw (is_command, is_customer, is_profiles, is_calendar) (record { may = first_may policy bytes; are = tables_are limits policy bytes })

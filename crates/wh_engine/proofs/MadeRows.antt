@@ -7,13 +7,13 @@ use Rattle.std.specs.Str.{is_utf8}
 use Rattle.std.proofs.lemmas.Bool.{and_parts, cases_Bool}
 use Rattle.std.proofs.lemmas.List.{length-replicate}
 use Rattle.std.proofs.lemmas.List.Folds.{list_all-append}
-use Rattle.wh_day.specs.Calendar.{calendar_row, weekday_of}
+use Rattle.wh_day.specs.Calendar.{date_row, weekday_of}
 use Rattle.wh_day.specs.Day.{is_day, year_of, first_day, last_day}
 use Rattle.wh_day.specs.Holidays.{is_on, holiday_text}
 use Rattle.wh_day.specs.Value.{none_text, unknown_text, no_card_text}
 use Rattle.wh_day.specs.declared.calendar.DateRow.{DateRow}
 use Rattle.wh_day.specs.declared.holiday.Holiday.{Holiday}
-use Rattle.wh_policy.specs.Policy.{types_of}
+use Rattle.wh_policy.specs.Policy.{policy_types}
 use Rattle.wh_policy.specs.Types.{is_profile}
 use Rattle.wh_policy.specs.declared.attribute.AttributeType.{AttributeType}
 use Rattle.wh_policy.specs.declared.attribute.AttributeType.TheVariants.{RetainOriginal, Overwrite, NewRow, NewAttribute, MiniDimension, MiniDimensionOutrigger, NewRowAndOverwrite, DualKeys}
@@ -121,17 +121,17 @@ holiday_utf8 (h ∷ holidays) day names =
       | false ↦ holiday_utf8 holidays day names.1
     ]
 
-date_valid : (holidays : List Holiday) (day : ℕ) → is_day day ≡ true → AllByRecursion (λ (h : Holiday). is_utf8 h.name ≡ true) holidays → row.calendar.is_valid (calendar_row holidays day) ≡ true
-unfolding calendar_row
+date_valid : (holidays : List Holiday) (day : ℕ) → is_day day ≡ true → AllByRecursion (λ (h : Holiday). is_utf8 h.name ≡ true) holidays → row.calendar.is_valid (date_row holidays day) ≡ true
+unfolding date_row
 date_valid holidays day is names = rw (is, day_utf8 day is, weekday_utf8 (weekday_of day), holiday_utf8 holidays day names) refl
 
 day_valid : (policy : Policy) (day : ℕ) (found : DateRow) → AllByRecursion (λ (h : Holiday). is_utf8 h.name ≡ true) policy.holidays → day_at policy day ≡ Some found → IsTrue (row.calendar.is_valid found)
 day_valid policy day found names is =
     elim (cases_Bool (is_day day && leb policy.years.first (year_of day) && leb (year_of day) policy.years.last)) [
       | inl all ↦
-          let some : Some (calendar_row policy.holidays day) ≡ Some found = rw all at is in
+          let some : Some (date_row policy.holidays day) ≡ Some found = rw all at is in
           let a_day = (and_parts (is_day day) (leb policy.years.first (year_of day)) (and_parts (is_day day && leb policy.years.first (year_of day)) (leb (year_of day) policy.years.last) all).0).0 in
-          subst (λ (r : DateRow). row.calendar.is_valid r ≡ true) (some_is (calendar_row policy.holidays day) found some) (date_valid policy.holidays day a_day names)
+          subst (λ (r : DateRow). row.calendar.is_valid r ≡ true) (some_is (date_row policy.holidays day) found some) (date_valid policy.holidays day a_day names)
       | inr not_all ↦ let none : None ≡ Some found = rw not_all at is in absurd (cc)
     ]
 
@@ -141,10 +141,10 @@ calendar_valid policy names = all_found (λ v. IsTrue (row.calendar.is_valid v))
 -- ---- all of them
 
 pub first_may : (policy : Policy) (bytes : List ℕ) → IsGoodPolicy policy
-    → MayBeFirst (making_row bytes) (no_card_row (types_of policy Customer)) (first_profiles (types_of policy Customer)) (calendar_rows policy)
+    → MayBeFirst (making_row bytes) (no_card_row (policy_types policy Customer)) (first_profiles (policy_types policy Customer)) (calendar_rows policy)
 first_may policy bytes good = record {
   command = refl;
-  customer = no_card_valid (types_of policy Customer) (good.six Customer);
-  profiles = profiles_valid (types_of policy Customer) (good.six Customer);
+  customer = no_card_valid (policy_types policy Customer) (good.six Customer);
+  profiles = profiles_valid (policy_types policy Customer) (good.six Customer);
   calendar = calendar_valid policy good.names;
 }

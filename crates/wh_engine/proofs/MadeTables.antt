@@ -10,7 +10,7 @@ use Rattle.std.proofs.lemmas.Cmp.{nat_cmp_total}
 use Rattle.std.proofs.lemmas.Map.Text.{is_eq-slice_cmp}
 use Rattle.std.proofs.lemmas.Slice.Eq.{bytes_eq-Decides}
 use Rattle.wh_day.specs.Value.{no_card_text, unknown_text}
-use Rattle.wh_policy.specs.Policy.{types_of}
+use Rattle.wh_policy.specs.Policy.{policy_types}
 use Rattle.wh_policy.specs.declared.attribute.Dim.{Dim}
 use Rattle.wh_policy.specs.declared.attribute.Dim.TheVariants.{Product, Store, Customer}
 use Rattle.wh_policy.specs.declared.format.Format.TheVariants.{One}
@@ -34,7 +34,7 @@ use Rattle.wh_engine.proofs.MadeCalendar.{calendar_made}
 -- the tables of a warehouse that was just made
 abbrev pub tables_made : Limits → Policy → List ℕ → Tables
 tables_made limits policy bytes =
-    with_first (making_row bytes) (no_card_row (types_of policy Customer)) (first_profiles (types_of policy Customer)) (calendar_rows policy) (made_with limits)
+    with_first (making_row bytes) (no_card_row (policy_types policy Customer)) (first_profiles (policy_types policy Customer)) (calendar_rows policy) (made_with limits)
 
 -- ---- meta
 
@@ -79,10 +79,10 @@ module _ (limits : Limits) (policy : Policy) (bytes : List ℕ) where
   command_made (suc (suc n)) = put_other empty 1 (making_row bytes) (suc (suc n)) (λ is. omega arith) ∙ get-empty nat_cmp (suc (suc n))
 
   abbrev no_card : ProfileRow
-  no_card = profile_of 0 no_card_text (types_of policy Customer)
+  no_card = profile_of 0 no_card_text (policy_types policy Customer)
 
   abbrev unknown : ProfileRow
-  unknown = profile_of 1 unknown_text (types_of policy Customer)
+  unknown = profile_of 1 unknown_text (policy_types policy Customer)
 
   profile_made : (number : ℕ) → get (tables_made limits policy bytes).profile number ≡ profile_at commands number
   profile_made zero = put_other (insert empty 0 no_card) 1 unknown 0 (λ is. omega arith) ∙ put_number empty 0 no_card 0 refl
@@ -94,8 +94,8 @@ module _ (limits : Limits) (policy : Policy) (bytes : List ℕ) where
   no_numbered dim (suc n) = refl
 
   customer_made : (key : ℕ) → get (tables_made limits policy bytes).customer key ≡ dimension_row commands Customer key
-  customer_made zero = put_number empty 0 (no_card_row (types_of policy Customer)) 0 refl
-  customer_made (suc n) = put_other empty 0 (no_card_row (types_of policy Customer)) (suc n) (λ is. omega arith) ∙ get-empty nat_cmp (suc n)
+  customer_made zero = put_number empty 0 (no_card_row (policy_types policy Customer)) 0 refl
+  customer_made (suc n) = put_other empty 0 (no_card_row (policy_types policy Customer)) (suc n) (λ is. omega arith) ∙ get-empty nat_cmp (suc n)
 
   no_member : (key : MemberKey) → member_at commands key ≡ None
   no_member key = rw (none_at {X = List ℕ} key.durable) refl

@@ -6,7 +6,7 @@ use lib.Utf8.{encode}
 use Rattle.std.specs.List.{AllByRecursion, IsDistinct}
 use Rattle.wh_day.specs.Day.{is_day}
 use Rattle.wh_day.specs.Value.{none_text, unknown_text, no_card_text, is_plain}
-use Rattle.wh_policy.specs.Policy.{described, policy_at}
+use Rattle.wh_policy.specs.Policy.{described, read_policy}
 use Rattle.wh_policy.specs.declared.attribute.Dim.{Dim}
 use Rattle.wh_policy.specs.declared.attribute.Dim.TheVariants.{Product, Store, Customer}
 use Rattle.wh_policy.specs.declared.record.DimensionRecord.{DimensionRecord}
@@ -49,7 +49,7 @@ good_records Store = tt
 good_records Customer = tt
 
 -- where its text writes its policy
-accepted : policy_at (codes "policy") ≡ Ok policy → IsAccepted limits commands
+accepted : read_policy (codes "policy") ≡ Ok policy → IsAccepted limits commands
 unfolding IsDistinct
 accepted written = record {
   limited = refl;

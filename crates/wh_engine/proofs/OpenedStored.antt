@@ -1,7 +1,7 @@
 -- What an engine reads of any stored rows when it opens a warehouse.
 use Rattle.std.proofs.Common.{◌≡◌, inl, inr, List, slice_get, Option, Some, None, Result, Ok, Err, IfOk, IfErr, ap, ◌∙◌}
 use Rattle.sqlite.specs.State.{State}
-use Rattle.wh_policy.specs.Policy.{policy_at}
+use Rattle.wh_policy.specs.Policy.{read_policy}
 use Rattle.wh_policy.specs.declared.policy.Policy.{Policy}
 use Rattle.wh_policy.specs.declared.fault.PolicyFault.{PolicyFault}
 use Rattle.wh_history.specs.Tables.{Limits}
@@ -56,7 +56,7 @@ bytes_fault (Err e) fault is = cc
 
 command_fault : (command : Option CommandRow) (fault : OpenFault) → of_command command ≡ Err fault → fault ≡ faults.Damaged tables.Command
 command_fault None fault is = cc
-command_fault (Some row) fault is = bytes_fault (policy_at row.bytes) fault is
+command_fault (Some row) fault is = bytes_fault (read_policy row.bytes) fault is
 
 module _ (stored : Stored) where
   -- ---- the policy

@@ -3,7 +3,7 @@ use Rattle.std.proofs.Common.{◌≡◌, ◌≢◌, ◌⊎◌, inl, inr, ℕ, Bo
 use Rattle.std.specs.Prelude.{codes, pos}
 use Rattle.sqlite.specs.Tree.{Trees}
 use Rattle.sqlite.specs.State.{State}
-use Rattle.wh_policy.specs.Policy.{policy_at}
+use Rattle.wh_policy.specs.Policy.{read_policy}
 use Rattle.wh_policy.specs.declared.policy.Policy.{Policy}
 use Rattle.wh_history.specs.Accepted.{Accepted, format_of}
 use Rattle.wh_history.specs.Tables.{Limits}
@@ -179,7 +179,7 @@ leaves_making limits policy bytes s t are left = record {
   ];
 }
 
-pub leaves_made : (limits : Limits) (policy : Policy) (bytes : List ℕ) (s : State) → policy_at bytes ≡ Ok policy → LeavesMaking limits policy bytes s → LeavesMade limits bytes s
+pub leaves_made : (limits : Limits) (policy : Policy) (bytes : List ℕ) (s : State) → read_policy bytes ≡ Ok policy → LeavesMaking limits policy bytes s → LeavesMade limits bytes s
 leaves_made limits policy bytes s written left = record {
   each = λ trees may. elim (left.each trees may) [
     | inl before ↦ inl before
@@ -190,7 +190,7 @@ leaves_made limits policy bytes s written left = record {
 pub leaves_nothing : (limits : Limits) (bytes : List ℕ) (s : State) → IsAtRest None s → LeavesMade limits bytes s
 leaves_nothing limits bytes s rests = record { each = λ trees may. inl (rests.left.each trees may) }
 
-pub made_ready : (limits : Limits) (policy : Policy) (bytes : List ℕ) (s : State) → are_limits limits ≡ true → policy_at bytes ≡ Ok policy → Rests limits (making_of policy bytes ∷ []) s
+pub made_ready : (limits : Limits) (policy : Policy) (bytes : List ℕ) (s : State) → are_limits limits ≡ true → read_policy bytes ≡ Ok policy → Rests limits (making_of policy bytes ∷ []) s
     → IsReady limits (making_of policy bytes ∷ []) (record { limits = limits; format = One; policy = policy; must_reopen = false }) s
 made_ready limits policy bytes s limited written rests = record {
   admitted = record { limited = limited; policy = policy; bytes = bytes; written = written; sent = []; admitted = refl };

@@ -15,7 +15,7 @@ use Rattle.wh_history.specs.Accepted.{Accepted, Content, Governs, Describes, Sel
 use Rattle.wh_history.specs.Tables.{Limits}
 use Rattle.wh_rows.specs.AtRest.{AreTrees, IsAtRest, Leaves}
 use Rattle.wh_rows.specs.Tables.{Tables}
-use Rattle.wh_admission.specs.Admission.{records_told, sales_told, voids_told, policy_told, content_of, format_brought, accepted_as, answer, accepted_after, current_policy, AreAdmitted}
+use Rattle.wh_admission.specs.Admission.{judged_records, judged_sales, judged_voids, judged_policy, content_of, format_brought, accepted_as, answer, accepted_after, current_policy, AreAdmitted}
 use Rattle.wh_engine.specs.Answered.{AreTreesOf, LeavesOneOf, IsReady, IsPerformed, IsPlanOf, IsWritten, IsForeseen}
 use Rattle.wh_engine.specs.Decided.{IsHeld, IsEffectOf, Decides}
 use Rattle.wh_model.specs.Defined.{AreOf}
@@ -25,7 +25,7 @@ use Rattle.wh_model.specs.Sound.{IsAccepted}
 use Rattle.wh_plan.specs.Writable.{MayBeWritten}
 use Rattle.wh_admission.specs.declared.command.Command.{Command}
 use Rattle.wh_admission.specs.declared.command.Receipt.{Receipt}
-use Rattle.wh_admission.specs.declared.command.Refused.{Refused as Refusal}
+use Rattle.wh_admission.specs.declared.command.Refusal.{Refusal as Refusal}
 use Rattle.wh_admission.specs.declared.command.Reply.{Reply}
 use Rattle.wh_admission.specs.declared.command.Reply.TheVariants.{Accepted as Accepts, Already}
 use Rattle.wh_engine.specs.declared.decision.Decision.{Decision}
@@ -44,19 +44,19 @@ use Rattle.wh_plan.proofs.WrittenEdits.{edits_are_written, no_edits_stay}
 -- what the bytes of a command say makes the format that its kind brings
 makes_format : (kind : CommandKind) (format : Format) (policy : Policy) (bytes : List ℕ) (content : Content) → content_of kind format policy bytes ≡ Ok content → (before : Format) → formatted before content ≡ format_brought kind before
 makes_format (Batch (Dimension dim)) format policy bytes content told before =
-    let (records, given, last) = bind_ok (records_told dim policy bytes) (λ records. Ok (Describes dim records)) content told in
+    let (records, given, last) = bind_ok (judged_records dim policy bytes) (λ records. Ok (Describes dim records)) content told in
     let e : Describes dim records ≡ content = cc in
     rw (← e) refl
 makes_format (Batch Sales) format policy bytes content told before =
-    let (sales, given, last) = bind_ok (sales_told format policy bytes) (λ sales. Ok (Sells sales)) content told in
+    let (sales, given, last) = bind_ok (judged_sales format policy bytes) (λ sales. Ok (Sells sales)) content told in
     let e : Sells sales ≡ content = cc in
     rw (← e) refl
 makes_format (Batch Voids) format policy bytes content told before =
-    let (voids, given, last) = bind_ok (voids_told format bytes) (λ voids. Ok (Withdraws voids)) content told in
+    let (voids, given, last) = bind_ok (judged_voids format bytes) (λ voids. Ok (Withdraws voids)) content told in
     let e : Withdraws voids ≡ content = cc in
     rw (← e) refl
 makes_format Migration format policy bytes content told before =
-    let (newer, given, last) = bind_ok (policy_told policy bytes) (λ newer. Ok (Governs newer)) content told in
+    let (newer, given, last) = bind_ok (judged_policy policy bytes) (λ newer. Ok (Governs newer)) content told in
     let e : Governs newer ≡ content = cc in
     rw (← e) refl
 makes_format Upgrade format policy bytes content told before =

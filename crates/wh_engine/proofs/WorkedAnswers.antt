@@ -20,7 +20,7 @@ use Rattle.wh_admission.specs.declared.command.Command.{Command}
 use Rattle.wh_batch.specs.declared.kind.CommandKind.TheVariants.{Batch, Upgrade}
 use Rattle.wh_admission.specs.declared.command.Receipt.{Receipt}
 use Rattle.wh_admission.specs.declared.command.Reply.TheVariants.{Accepted as Accepts, Already}
-use Rattle.wh_admission.specs.declared.command.Refused.TheVariants.{BadId, Reused, Batch as BadBatch, Upgraded, LineThere, NoLine, Full}
+use Rattle.wh_admission.specs.declared.command.Refusal.TheVariants.{BadId, Reused, Batch as BadBatch, Upgraded, LineThere, NoLine, Full}
 use Rattle.wh_admission.specs.declared.command.Limit.TheVariants.{Commands, Changes}
 
 abbrev limits : ℕ → ℕ → ℕ → Limits

@@ -6,8 +6,8 @@ use Rattle.wh_policy.specs.declared.format.Format.TheVariants.{One, Two}
 use Rattle.wh_policy.specs.declared.policy.Policy.{Policy}
 use Rattle.wh_history.specs.Accepted.{Accepted, Content, format_of, governed}
 use Rattle.wh_rows.specs.declared.rows.CommandRow.{CommandRow}
-use Rattle.wh_batch.specs.Kind.{command_word}
-use Rattle.wh_admission.specs.Admission.{answer, bytes_kept, content_of, accepted_as, current_policy, policy_brought, receipt_again, already}
+use Rattle.wh_batch.specs.Kind.{command_kind_word}
+use Rattle.wh_admission.specs.Admission.{answer, kept_bytes, content_of, accepted_as, current_policy, policy_brought, receipt_again, already}
 use Rattle.wh_rows.specs.Facts.{facts_in}
 use Rattle.wh_rows.specs.Tables.{Tables}
 use Rattle.wh_model.specs.Defined.{AreOf}
@@ -23,7 +23,7 @@ use Rattle.wh_admission.specs.declared.command.Command.{Command}
 use Rattle.wh_admission.specs.declared.command.Receipt.{Receipt}
 use Rattle.wh_admission.specs.declared.command.Reply.{Reply}
 use Rattle.wh_admission.specs.declared.command.Reply.TheVariants.{Accepted as Accepts, Already}
-use Rattle.wh_admission.specs.declared.command.Refused.{Refused}
+use Rattle.wh_admission.specs.declared.command.Refusal.{Refusal}
 use Rattle.wh_engine.specs.Faults.{Judges}
 use Rattle.wh_engine.specs.declared.fault.Fault.{Fault}
 use Rattle.wh_engine.specs.declared.session.Session.{Session}
@@ -31,15 +31,15 @@ use Rattle.wh_engine.specs.declared.decision.Decision.{Decision}
 use Rattle.wh_engine.specs.declared.decision.Decision.TheVariants.{Repeat, Accept}
 
 -- the receipt that was kept for a command whose id is that of this row, and the answer with it
-abbrev pub receipt_of_known : CommandRow → Command → Result Receipt Refused
+abbrev pub receipt_of_known : CommandRow → Command → Result Receipt Refusal
 receipt_of_known row c = receipt_again row.kind row.bytes c (record { number = row.number; records = row.records; placeholders = row.placeholders })
 
-abbrev pub reply_to_known : CommandRow → Command → Result Reply Refused
+abbrev pub reply_to_known : CommandRow → Command → Result Reply Refusal
 reply_to_known row c = already (receipt_of_known row c)
 
 -- the row of a command that holds so many records and is the first to mention no member that it sells
 abbrev pub row_of_command : Command → ℕ → ℕ → CommandRow
-row_of_command c number records = record { number = number; id = c.id; kind = command_word c.kind; bytes = bytes_kept c.kind c.bytes; records = records; placeholders = 0 }
+row_of_command c number records = record { number = number; id = c.id; kind = command_kind_word c.kind; bytes = kept_bytes c.kind c.bytes; records = records; placeholders = 0 }
 
 -- no accepted command has its id
 abbrev pub IsNew : List Accepted → Command → Type 0

@@ -4,8 +4,8 @@ use Rattle.wh_rows.specs.Raw.{Stored, HasDamageIn}
 use Rattle.wh_rows.specs.declared.table.Table.{Table}
 use Rattle.wh_sql.specs.declared.fault.ReadFault.{ReadFault}
 use Rattle.wh_sql.specs.declared.fault.ReadFault.TheVariants as reading
-use Rattle.wh_admission.specs.declared.command.Refused.{Refused}
-use Rattle.wh_admission.specs.declared.command.Refused.TheVariants.{NameTaken}
+use Rattle.wh_admission.specs.declared.command.Refusal.{Refusal}
+use Rattle.wh_admission.specs.declared.command.Refusal.TheVariants.{NameTaken}
 use Rattle.wh_engine.specs.declared.fault.Fault.{Fault}
 use Rattle.wh_engine.specs.declared.fault.Fault.TheVariants as faults
 
@@ -65,7 +65,7 @@ TellsTaken taken (Err (faults.Refused NameTaken)) = IsTrue taken
 TellsTaken taken result = ⊤
 
 -- The answer is that of the definition; or memory ran out, or the store refused a call. Nothing else comes.
-abbrev pub Judges : {X Y : Type 0} → (X → Y → Type 0) → Result X Fault → Result Y Refused → Type 0
+abbrev pub Judges : {X Y : Type 0} → (X → Y → Type 0) → Result X Fault → Result Y Refusal → Type 0
 Judges fits (Ok x) (Ok y) = fits x y
 Judges fits (Ok x) (Err why) = ⊥
 Judges fits (Err (faults.Refused why)) judged = judged ≡ Err why

@@ -7,7 +7,7 @@ use Rattle.sqlite.specs.Tree.{Trees}
 use Rattle.sqlite.specs.State.{State, HasCleanDisk}
 use Rattle.sqlite.specs.Order.{Row}
 use Rattle.wh_day.specs.Reading.{◌>>=◌}
-use Rattle.wh_policy.specs.Policy.{policy_at}
+use Rattle.wh_policy.specs.Policy.{read_policy}
 use Rattle.wh_policy.specs.declared.fault.PolicyFault.{PolicyFault}
 use Rattle.wh_policy.specs.declared.policy.Policy.{Policy}
 use Rattle.wh_history.specs.Accepted.{Accepted}
@@ -67,7 +67,7 @@ of_policy (Ok policy) = Ok policy
 of_policy (Err fault) = Err (faults.Damaged tables.Command)
 
 abbrev pub of_command : Option CommandRow → Result Policy OpenFault
-of_command (Some row) = of_policy (policy_at row.bytes)
+of_command (Some row) = of_policy (read_policy row.bytes)
 of_command None = Err (faults.Damaged tables.Command)
 
 -- What an engine has to know of tables of this format that are opened, or the first fault that is met.
@@ -139,15 +139,15 @@ pub record LeavesMaking (limits : Limits) (policy : Policy) (bytes : List ℕ) (
 
 -- a crash leaves a database with no object in it, or, where the bytes give a policy, the tables of the making
 pub record LeavesMade (limits : Limits) (bytes : List ℕ) (s : State) : Type 0 where
-  pub each : (trees : Trees) → s.may_leave trees → AreTrees None trees ⊎ ((policy : Policy) × (policy_at bytes ≡ Ok policy) × AreTreesOf limits (making_of policy bytes ∷ []) trees)
+  pub each : (trees : Trees) → s.may_leave trees → AreTrees None trees ⊎ ((policy : Policy) × (read_policy bytes ≡ Ok policy) × AreTreesOf limits (making_of policy bytes ∷ []) trees)
 
 -- Why no warehouse was made: the bytes' first fault; or the bytes give a policy, and a name of the twelve tables is taken; or memory ran out; or the
 -- bytes give a policy, and the store refused a call.
 abbrev pub IsNotMade : List ℕ → Bool → InitFault → Type 0
-IsNotMade bytes taken (init.Policy fault) = policy_at bytes ≡ Err fault
-IsNotMade bytes taken init.NotEmpty = IsOk (policy_at bytes) × (taken ≡ true)
+IsNotMade bytes taken (init.Policy fault) = read_policy bytes ≡ Err fault
+IsNotMade bytes taken init.NotEmpty = IsOk (read_policy bytes) × (taken ≡ true)
 IsNotMade bytes taken init.Memory = Unit {0}
-IsNotMade bytes taken (init.Store cause) = IsOk (policy_at bytes)
+IsNotMade bytes taken (init.Store cause) = IsOk (read_policy bytes)
 
 -- what is answered before anything is written
 abbrev pub NothingIsWritten : InitFault → Type 0

@@ -15,7 +15,7 @@ ghost use Rattle.wh_engine.specs.Scanned.{Reads, ReadsOnlyIn, WhenAccepted, When
 use crate::fault::Fault;
 use sqlite::Alter;
 use std::alloc::Global;
-use wh_admission::{Command, Limit, Receipt, Refused};
+use wh_admission::{Command, Limit, Receipt, Refusal};
 use wh_batch::MOST_RECORDS;
 use wh_day::Value;
 use wh_policy::{Format, SaleRecord, VoidRecord};
@@ -23,7 +23,7 @@ use wh_rows::{Cause, CommandRow, Limits, LineKey, tables};
 use wh_store::{KeyedTable, ReadFault, Tables};
 
 /// The receipt that was kept for a command whose id is known. It came again where kind and bytes are the same too.
-pub(crate) fn receipt_of_known(row: &CommandRow, command: &Command) -> Result<Receipt, Refused>
+pub(crate) fn receipt_of_known(row: &CommandRow, command: &Command) -> Result<Receipt, Refusal>
     ensures { result ≡ receipt_of_known row.now command.now }
 {
     if row.kind.as_str() == command.kind.word() && row.bytes.as_slice() == command.kept_bytes() {
@@ -33,7 +33,7 @@ pub(crate) fn receipt_of_known(row: &CommandRow, command: &Command) -> Result<Re
             placeholders: row.placeholders,
         });
     }
-    Err(Refused::Reused)
+    Err(Refusal::Reused)
 }
 
 /// Whether there is room under a limit for so many more than are kept.
@@ -235,10 +235,10 @@ pub(crate) fn number_for_records<S: Alter>(
 {
     let commands = tables.count::<tables::Command>(alloc)?;
     if limits.commands() <= commands {
-        return Err(Fault::Refused(Refused::Full(Limit::Commands)));
+        return Err(Fault::Refused(Refusal::Full(Limit::Commands)));
     }
     if !has_room_for::<tables::Change, S>(tables, alloc, limits.changes(), commands, records)? {
-        return Err(Fault::Refused(Refused::Full(Limit::Changes)));
+        return Err(Fault::Refused(Refusal::Full(Limit::Changes)));
     }
     let number = free_number(tables, alloc, commands + 1)?;
     Ok(number)
@@ -259,14 +259,14 @@ pub(crate) fn number_for_sales<S: Alter>(
 {
     let commands = tables.count::<tables::Command>(alloc)?;
     if limits.commands() <= commands {
-        return Err(Fault::Refused(Refused::Full(Limit::Commands)));
+        return Err(Fault::Refused(Refusal::Full(Limit::Commands)));
     }
     if let Some(number) = first_line_there(tables, alloc, format, sales)? {
-        return Err(Fault::Refused(Refused::LineThere(number)));
+        return Err(Fault::Refused(Refusal::LineThere(number)));
     }
     let count = sales.len() as u64;
     if !has_room_for_lines(tables, alloc, format, limits.facts(), commands, count)? {
-        return Err(Fault::Refused(Refused::Full(Limit::Facts)));
+        return Err(Fault::Refused(Refusal::Full(Limit::Facts)));
     }
     let number = free_number(tables, alloc, commands + 1)?;
     Ok(number)
@@ -286,10 +286,10 @@ pub(crate) fn number_for_voids<S: Alter>(
 {
     let commands = tables.count::<tables::Command>(alloc)?;
     if limits.commands() <= commands {
-        return Err(Fault::Refused(Refused::Full(Limit::Commands)));
+        return Err(Fault::Refused(Refusal::Full(Limit::Commands)));
     }
     if let Some(number) = first_line_missing(tables, alloc, voids)? {
-        return Err(Fault::Refused(Refused::NoLine(number)));
+        return Err(Fault::Refused(Refusal::NoLine(number)));
     }
     let number = free_number(tables, alloc, commands + 1)?;
     Ok(number)

@@ -15,7 +15,7 @@ ghost use Rattle.wh_engine.specs.Scanned.{EngineReads, Reads, ReadsOnlyIn, Spare
 
 use crate::engine::Engine;
 use crate::fault::{Fault, stops};
-use crate::replica::make_replica;
+use crate::replica::replicated_tables;
 use sqlite::Alter;
 use std::alloc::Global;
 use wh_check::{Verdict, holds_the_same, limits_said};
@@ -104,7 +104,7 @@ fn judge<S: Alter>(
     let Some(limits) = limits_said(tables, alloc, format)? else {
         return Ok(Verdict::Wrong(Table::Meta));
     };
-    let Some(mut replica) = make_replica(tables, alloc, format, limits)? else {
+    let Some(mut replica) = replicated_tables(tables, alloc, format, limits)? else {
         return Ok(Verdict::Wrong(Table::Command));
     };
     judge_tables(tables, alloc, format, &mut replica)

@@ -38,7 +38,7 @@ pub struct Counts {
 }
 
 /// How many members a dimension has.
-fn members_of<S: Alter>(tables: &mut Tables<S>, alloc: Global, dim: Dim) -> Result<u64, Fault>
+fn member_count<S: Alter>(tables: &mut Tables<S>, alloc: Global, dim: Dim) -> Result<u64, Fault>
     ensures reads { Reads S.Store tables.old tables.new result }
     ensures members { WhenAtRest S.Store tables.old tables.new (λ t. (limits : Limits) (commands : List Accepted) → AreOf limits commands t → Judges (λ count told. count ≡ told) result (Ok (length (members dim commands)))) }
 {
@@ -59,9 +59,9 @@ fn counts_of<S: Alter>(
     let commands = tables.count::<tables::Command>(alloc)?;
     let changes = tables.count::<tables::Change>(alloc)?;
     let facts = tables.count_facts(alloc, format)?;
-    let products = members_of(tables, alloc, Dim::Product)?;
-    let stores = members_of(tables, alloc, Dim::Store)?;
-    let customers = members_of(tables, alloc, Dim::Customer)?;
+    let products = member_count(tables, alloc, Dim::Product)?;
+    let stores = member_count(tables, alloc, Dim::Store)?;
+    let customers = member_count(tables, alloc, Dim::Customer)?;
     Ok(Counts {
         format: format.number(),
         commands,

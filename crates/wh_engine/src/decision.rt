@@ -6,7 +6,7 @@ ghost use Rattle.wh_policy.specs.declared.policy.Policy.{Policy};
 ghost use Rattle.wh_history.specs.Accepted.{Accepted, Sells, Withdraws, format_of};
 ghost use Rattle.wh_rows.specs.Raw.{Stored};
 ghost use Rattle.wh_rows.specs.Types.{is_key};
-ghost use Rattle.wh_admission.specs.Admission.{content_of, current_policy, policy_told, records_told, sales_told, voids_told};
+ghost use Rattle.wh_admission.specs.Admission.{content_of, current_policy, judged_policy, judged_records, judged_sales, judged_voids};
 ghost use Rattle.wh_engine.specs.Decided.{row_of_command, IsNew, IsDecided, IsDecidedNew, reply_to_known, Brings, Decides, RepeatsKept, WritesItsRow};
 ghost use Rattle.wh_batch.specs.declared.kind.CommandKind.TheVariants.{Batch, Migration, Upgrade};
 ghost use Rattle.wh_engine.specs.Faults.{BlamesDamage, IsWorkedOut, Judges, TellsTaken};
@@ -19,14 +19,14 @@ use crate::session::Session;
 use sqlite::Alter;
 use sqlite_value::value::Bytes;
 use std::alloc::{AllocError, Global};
-use wh_admission::{Command, Receipt, Refused};
+use wh_admission::{Command, Receipt, Refusal};
 use wh_batch::{
     CommandKind, DimensionRecords, Kind, SaleRecords, VoidRecords, dimension_records, sale_records,
     void_records,
 };
 use wh_day::{ParseError, Value, is_key};
 use wh_migration::{plan_migration, plan_upgrade};
-use wh_plan::reading::command_of;
+use wh_plan::reading::command_with;
 use wh_plan::{Edits, Terms, plan_batch, plan_sales, plan_voids};
 use wh_policy::{Dim, Format, Policy, SaleRecord, VoidRecord};
 use wh_rows::{CommandRow, ID_LIMIT};
@@ -42,77 +42,77 @@ pub(crate) enum Decision {
 }
 
 /// The records of a batch.
-fn records_of(
+fn judged_records(
     alloc: Global,
     policy: &Policy,
     dim: Dim,
     bytes: &[u8],
 ) -> Result<DimensionRecords, Fault>
-    ensures read { Judges (λ records told. records ≡ told) result (records_told dim policy.now bytes.now) }
+    ensures read { Judges (λ records told. records ≡ told) result (judged_records dim policy.now bytes.now) }
     ensures blames { (stored : Stored) → BlamesDamage stored result }
     ensures taken { (taken : Bool) → TellsTaken taken result }
     ensures work { IsWorkedOut result }
 {
     match dimension_records(alloc, dim, policy, bytes) {
         Ok(records) => Ok(records),
-        Err(ParseError::Fault(fault)) => Err(Fault::Refused(Refused::Batch(fault))),
+        Err(ParseError::Fault(fault)) => Err(Fault::Refused(Refusal::Batch(fault))),
         Err(ParseError::Memory) => Err(Fault::Memory),
     }
 }
 
 /// The sales of a batch.
-fn sales_of(
+fn judged_sales(
     alloc: Global,
     format: Format,
     policy: &Policy,
     bytes: &[u8],
 ) -> Result<SaleRecords, Fault>
-    ensures read { Judges (λ sales told. sales ≡ told) result (sales_told format policy.now bytes.now) }
+    ensures read { Judges (λ sales told. sales ≡ told) result (judged_sales format policy.now bytes.now) }
     ensures blames { (stored : Stored) → BlamesDamage stored result }
     ensures taken { (taken : Bool) → TellsTaken taken result }
     ensures work { IsWorkedOut result }
 {
     match sale_records(alloc, policy, format, bytes) {
         Ok(sales) => Ok(sales),
-        Err(ParseError::Fault(fault)) => Err(Fault::Refused(Refused::Batch(fault))),
+        Err(ParseError::Fault(fault)) => Err(Fault::Refused(Refusal::Batch(fault))),
         Err(ParseError::Memory) => Err(Fault::Memory),
     }
 }
 
 /// The lines of a batch of voids.
-fn voids_of(alloc: Global, format: Format, bytes: &[u8]) -> Result<VoidRecords, Fault>
-    ensures read { Judges (λ voids told. voids ≡ told) result (voids_told format bytes.now) }
+fn judged_voids(alloc: Global, format: Format, bytes: &[u8]) -> Result<VoidRecords, Fault>
+    ensures read { Judges (λ voids told. voids ≡ told) result (judged_voids format bytes.now) }
     ensures blames { (stored : Stored) → BlamesDamage stored result }
     ensures taken { (taken : Bool) → TellsTaken taken result }
     ensures work { IsWorkedOut result }
 {
     match void_records(alloc, format, bytes) {
         Ok(voids) => Ok(voids),
-        Err(ParseError::Fault(fault)) => Err(Fault::Refused(Refused::Batch(fault))),
+        Err(ParseError::Fault(fault)) => Err(Fault::Refused(Refusal::Batch(fault))),
         Err(ParseError::Memory) => Err(Fault::Memory),
     }
 }
 
 /// The policy of a migration, where it fits the one in force.
-fn policy_of(alloc: Global, older: &Policy, bytes: &[u8]) -> Result<Policy, Fault>
-    ensures read { Judges (λ newer told. newer ≡ told) result (policy_told older.now bytes.now) }
+fn judged_policy(alloc: Global, older: &Policy, bytes: &[u8]) -> Result<Policy, Fault>
+    ensures read { Judges (λ newer told. newer ≡ told) result (judged_policy older.now bytes.now) }
     ensures blames { (stored : Stored) → BlamesDamage stored result }
     ensures taken { (taken : Bool) → TellsTaken taken result }
     ensures work { IsWorkedOut result }
 {
     let newer = match Policy::read(alloc, bytes) {
         Ok(newer) => newer,
-        Err(ParseError::Fault(fault)) => return Err(Fault::Refused(Refused::Policy(fault))),
+        Err(ParseError::Fault(fault)) => return Err(Fault::Refused(Refusal::Policy(fault))),
         Err(ParseError::Memory) => return Err(Fault::Memory),
     };
     if !older.fits(&newer) {
-        return Err(Fault::Refused(Refused::Unfit));
+        return Err(Fault::Refused(Refusal::Unfit));
     }
     Ok(newer)
 }
 
 /// The row of a command among those that are kept.
-fn command_row(
+fn row_of_command(
     alloc: Global,
     command: &Command,
     number: u64,
@@ -143,13 +143,13 @@ fn decide_records<S: Alter>(
     ensures brings { command.now.kind ≡ Batch (Dimension dim) → IfOk result (Brings session.now.policy command.now) }
     ensures own { IfOk result WritesItsRow }
 {
-    let records = records_of(alloc, &session.policy, dim, command.bytes.as_slice())?;
+    let records = judged_records(alloc, &session.policy, dim, command.bytes.as_slice())?;
     let count = records.as_slice().len() as u64;
     let number = match number_for_records(tables, alloc, session.limits, count) {
         Ok(number) => number,
         Err(fault) => return Err(fault),
     };
-    let row = command_row(alloc, command, number, count)?;
+    let row = row_of_command(alloc, command, number, count)?;
     let terms = Terms {
         format: session.format,
         policy: &session.policy,
@@ -182,7 +182,7 @@ fn decide_sold<S: Alter>(
         Ok(number) => number,
         Err(fault) => return Err(fault),
     };
-    let row = command_row(alloc, command, number, sales.len() as u64)?;
+    let row = row_of_command(alloc, command, number, sales.len() as u64)?;
     let terms = Terms {
         format: session.format,
         policy: &session.policy,
@@ -208,7 +208,7 @@ fn decide_sales<S: Alter>(
     ensures brings { command.now.kind ≡ Batch Sales → IfOk result (Brings session.now.policy command.now) }
     ensures own { IfOk result WritesItsRow }
 {
-    let sales = sales_of(
+    let sales = judged_sales(
         alloc,
         session.format,
         &session.policy,
@@ -237,7 +237,7 @@ fn decide_withdrawn<S: Alter>(
         Err(fault) => return Err(fault),
     };
     let lines = voids.len() as u64;
-    let row = command_row(alloc, command, number, lines)?;
+    let row = row_of_command(alloc, command, number, lines)?;
     let edits = plan_voids(alloc, row, voids)?;
     let receipt = Receipt {
         number,
@@ -259,7 +259,7 @@ fn decide_voids<S: Alter>(
     ensures brings { command.now.kind ≡ Batch Voids → IfOk result (Brings session.now.policy command.now) }
     ensures own { IfOk result WritesItsRow }
 {
-    let voids = voids_of(alloc, session.format, command.bytes.as_slice())?;
+    let voids = judged_voids(alloc, session.format, command.bytes.as_slice())?;
     decide_withdrawn(tables, alloc, session, command, voids.as_slice())
 }
 
@@ -275,12 +275,12 @@ fn decide_migration<S: Alter>(
     ensures brings { command.now.kind ≡ Migration → IfOk result (Brings session.now.policy command.now) }
     ensures own { IfOk result WritesItsRow }
 {
-    let newer = policy_of(alloc, &session.policy, command.bytes.as_slice())?;
+    let newer = judged_policy(alloc, &session.policy, command.bytes.as_slice())?;
     let number = match number_for_records(tables, alloc, session.limits, 0) {
         Ok(number) => number,
         Err(fault) => return Err(fault),
     };
-    let row = command_row(alloc, command, number, 0)?;
+    let row = row_of_command(alloc, command, number, 0)?;
     let terms = Terms {
         format: session.format,
         policy: &session.policy,
@@ -311,12 +311,12 @@ fn decide_upgrade<S: Alter>(
         Err(fault) => return Err(fault),
     };
     if session.format == Format::Two {
-        return Err(Fault::Refused(Refused::Upgraded));
+        return Err(Fault::Refused(Refusal::Upgraded));
     }
     if tables.is_second_taken() {
-        return Err(Fault::Refused(Refused::NameTaken));
+        return Err(Fault::Refused(Refusal::NameTaken));
     }
-    let row = command_row(alloc, command, number, 0)?;
+    let row = row_of_command(alloc, command, number, 0)?;
     let edits = plan_upgrade(tables, alloc, row)?;
     let receipt = Receipt {
         number,
@@ -376,9 +376,9 @@ pub(crate) fn decide<S: Alter>(
     ensures again { WhenStored S.Store tables.old tables.new (λ stored. IfOk result (RepeatsKept stored command.now)) }
 {
     if !is_key(ID_LIMIT, command.id.as_str().as_bytes()) {
-        return Err(Fault::Refused(Refused::BadId));
+        return Err(Fault::Refused(Refusal::BadId));
     }
-    match command_of(tables, alloc, &command.id)? {
+    match command_with(tables, alloc, &command.id)? {
         Some(row) => decide_known(&row, command),
         None => decide_new(tables, alloc, session, command),
     }

@@ -8,19 +8,19 @@ use crate::engine::Engine;
 use crate::fault::Fault;
 use sqlite::Alter;
 use std::alloc::Global;
-use wh_admission::{Command, Refused, Reply};
+use wh_admission::{Command, Refusal, Reply};
 
 /// The answers to commands that are delivered one after the other.
 #[derive(Debug, Drop)]
 pub struct Replies {
     /// What was answered to each command, in order, up to the one that stopped the delivery.
-    pub answers: Vec<Result<Reply, Refused>>,
+    pub answers: Vec<Result<Reply, Refusal>>,
     /// What stopped it: a fault that is no refusal of a command.
     pub stop: Option<Fault>,
 }
 
 /// A reply and a refusal of the command are its answer; any other fault stops a delivery.
-fn answer_or_stop(answered: Result<Reply, Fault>) -> Result<Result<Reply, Refused>, Fault>
+fn answer_or_stop(answered: Result<Reply, Fault>) -> Result<Result<Reply, Refusal>, Fault>
     ensures { result ≡ answer_or_stop answered }
 {
     match answered {

@@ -6,7 +6,7 @@ ghost use Rattle.wh_engine.specs.declared.fault.Fault.TheVariants as faults;
 
 use std::alloc::AllocError;
 use thiserror::Error;
-use wh_admission::Refused;
+use wh_admission::Refusal;
 use wh_rows::{Cause, Table};
 use wh_store::ReadFault;
 
@@ -15,7 +15,7 @@ use wh_store::ReadFault;
 pub enum Fault {
     /// The command isn't accepted. It isn't kept, and nothing changed.
     #[error("the command is not accepted")]
-    Refused(Refused),
+    Refused(Refusal),
     /// A row of this table is out of its type. Nothing changed.
     #[error("a row of a table is out of its type")]
     Damaged(Table),
@@ -45,10 +45,10 @@ impl From<AllocError> for Fault {
     }
 }
 
-impl From<Refused> for Fault {
+impl From<Refusal> for Fault {
     ghost from_gives = { λ why fault. fault ≡ faults.Refused why };
 
-    fn from(why: Refused) -> Fault {
+    fn from(why: Refusal) -> Fault {
         Fault::Refused(why)
     }
 }

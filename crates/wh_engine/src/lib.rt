@@ -31,7 +31,7 @@ pub use opening::InitFault;
 pub use preview::Preview;
 pub use reopen::{NotReopened, deliver_again, redeliver, restart};
 pub use scan::Scan;
-pub use wh_admission::{Command, Limit, Receipt, Refused, Reply};
+pub use wh_admission::{Command, Limit, Receipt, Refusal, Reply};
 pub use wh_batch::CommandKind;
 pub use wh_check::Verdict;
 pub use wh_store::OpenFault;

@@ -36,7 +36,7 @@ fn making_row(alloc: Global, bytes: &[u8]) -> Result<CommandRow, AllocError>
 }
 
 /// The calendar's rows: one for each day of the policy's years, in their order.
-fn calendar(alloc: Global, policy: &Policy) -> Result<Vec<DateRow>, AllocError>
+fn calendar_rows(alloc: Global, policy: &Policy) -> Result<Vec<DateRow>, AllocError>
     ensures { IfOk result (λ rows. rows.items ≡ calendar_rows policy.now) }
 {
     let keys = policy.years.keys();
@@ -87,7 +87,7 @@ pub fn write_making<S: Alter>(
     let command = making_row(alloc, bytes)?;
     let customer = no_card_row(alloc, &types)?;
     let profiles = first_profiles(alloc, &types)?;
-    let calendar = calendar(alloc, policy)?;
+    let calendar = calendar_rows(alloc, policy)?;
     writing.make(alloc, limits)?;
     put_first(writing, alloc, &command, &customer, &profiles, &calendar)
 }

@@ -3,9 +3,9 @@
 ghost use Rattle.std.specs.Prelude.{◌≡◌, ◌≢◌, true, false, [], ◌∷◌, slice_get, None, Some, Ok, Err, IfOk, IfErr, OnOk, IsTrue};
 ghost use Rattle.sqlite.specs.Held.{state};
 ghost use Rattle.sqlite.specs.State.{HasCleanDisk};
-ghost use Rattle.wh_policy.specs.Policy.{policy_at};
+ghost use Rattle.wh_policy.specs.Policy.{read_policy};
 ghost use Rattle.wh_rows.specs.AtRest.{IsAtRest};
-ghost use Rattle.wh_store.specs.Reads.{is_any_taken, are_all_there, state_of, SaysAtRest, SaysAsStored};
+ghost use Rattle.wh_store.specs.Reads.{is_any_taken, has_tables, state_of, SaysAtRest, SaysAsStored};
 ghost use Rattle.wh_store.specs.Opening.{IsServed, SparesStore};
 ghost use Rattle.wh_policy.specs.declared.format.Format.TheVariants.{Two};
 ghost use Rattle.wh_policy.specs.Formats.{is_two};
@@ -127,7 +127,7 @@ impl<S: Alter> Engine<S> {
         limits: Limits,
     ) -> Result<Engine<S>, (InitFault, Connection<S>)>
         ensures made { IfOpened S.Store conn result (λ old new engine. WhenNothing old new (IsReady limits (making_of engine.session.policy policy.now ∷ []) engine.session new)) }
-        ensures written { IfOk result (λ engine. (policy_at policy.now ≡ Ok engine.session.policy) × (is_any_taken (state S.Store conn).now.schema ≡ false)) }
+        ensures written { IfOk result (λ engine. (read_policy policy.now ≡ Ok engine.session.policy) × (is_any_taken (state S.Store conn).now.schema ≡ false)) }
         ensures refused { IfErr result (λ e. IsNotMade policy.now (is_any_taken (state S.Store conn).now.schema) e.0) }
         ensures same { IfErr result (λ e. NothingIsWritten e.0 → e.1 ≡ conn) }
         ensures fresh { IfOk result (λ engine. (engine.session.must_reopen ≡ false) × (engine.writes ≡ 0)) }
@@ -183,7 +183,7 @@ impl<S: Alter> Engine<S> {
         ensures fault_stored { IfHandedBack S.Store conn result (λ old new why. SaysAsStored old new (λ stored. IsUnopened stored why × LeavesStored stored new × (SparesStore why → RestsOn stored new))) }
         ensures fresh { IfOk result (λ engine. (engine.session.must_reopen ≡ false) × (engine.writes ≡ 0)) }
         ensures within { IsTrue conn.in_transaction → result ≡ Err (OpenFault.Store Cause.Disk, conn) }
-        ensures missing { conn.in_transaction ≡ false → are_all_there (state S.Store conn).now.schema ≡ false → result ≡ Err (OpenFault.NotAWarehouse, conn) }
+        ensures missing { conn.in_transaction ≡ false → has_tables (state S.Store conn).now.schema ≡ false → result ≡ Err (OpenFault.NotAWarehouse, conn) }
     {
         let (mut tables, format) = match Tables::open(alloc, conn, Format::Two) {
             Ok(opened) => opened,

@@ -21,7 +21,7 @@ use wh_admission::{Command, Receipt};
 use wh_batch::CommandKind;
 use wh_day::{Value, is_key};
 use wh_plan::Edits;
-use wh_plan::reading::command_of;
+use wh_plan::reading::command_with;
 use wh_rows::{Cause, ID_LIMIT};
 use wh_store::{ReadFault, Tables};
 
@@ -52,7 +52,7 @@ fn is_free<S: Alter>(tables: &mut Tables<S>, alloc: Global, id: &Value) -> Resul
     if !is_key(ID_LIMIT, id.as_str().as_bytes()) {
         return Ok(false);
     }
-    let row = command_of(tables, alloc, id)?;
+    let row = command_with(tables, alloc, id)?;
     Ok(row.is_none())
 }
 

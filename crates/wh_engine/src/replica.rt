@@ -2,7 +2,7 @@
 //! these define.
 
 ghost use Rattle.std.specs.Prelude.{◌≡◌, ◌&&◌, ◌==◌, List, [], true, Some, bytes_eq, IfOk, IfErr};
-ghost use Rattle.wh_admission.specs.Admission.{bytes_kept};
+ghost use Rattle.wh_admission.specs.Admission.{kept_bytes};
 ghost use Rattle.wh_admission.specs.Checked.{stored_in};
 ghost use Rattle.sqlite.specs.Files.{over_files};
 ghost use Rattle.wh_history.specs.Accepted.{Accepted};
@@ -63,7 +63,7 @@ fn says(receipt: Receipt, number: u64, records: u64, placeholders: u64) -> bool
 
 /// Whether all bytes of a command are kept.
 fn keeps_all(command: &Command) -> bool
-    ensures { result ≡ bytes_eq (bytes_kept command.now.kind command.now.bytes) command.now.bytes }
+    ensures { result ≡ bytes_eq (kept_bytes command.now.kind command.now.bytes) command.now.bytes }
 {
     command.kept_bytes() == command.bytes.as_slice()
 }
@@ -136,7 +136,7 @@ impl Replica {
 }
 
 /// The tables of the warehouse, where it has a command, each row was that of the next, and it is of this format then.
-fn tables_of(format: Format, is_list: bool, replica: Replica) -> Option<Tables<Scratch>>
+fn replica_tables(format: Format, is_list: bool, replica: Replica) -> Option<Tables<Scratch>>
     ensures { IsEndOf format is_list replica.engine result }
 {
     if !is_list {
@@ -153,7 +153,7 @@ fn tables_of(format: Format, is_list: bool, replica: Replica) -> Option<Tables<S
 
 /// Tables of a second warehouse that are those of the commands which the command table tells, where it tells a list that was admitted under
 /// these limits, with the receipts that were kept, and makes this format. It is read to its end, so that a damaged row is met wherever it stands.
-pub(crate) fn make_replica<S: Alter>(
+pub(crate) fn replicated_tables<S: Alter>(
     tables: &mut Tables<S>,
     alloc: Global,
     format: Format,
@@ -175,7 +175,7 @@ pub(crate) fn make_replica<S: Alter>(
                     is_list = replica.take_row(alloc, row)?;
                 }
             }
-            None => return Ok(tables_of(format, is_list, replica)),
+            None => return Ok(replica_tables(format, is_list, replica)),
         }
     }
     Err(ReadFault::Memory)

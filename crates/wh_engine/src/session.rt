@@ -21,7 +21,7 @@ pub struct Session {
 }
 
 /// The format after an accepted command of this kind.
-fn format_after(kind: CommandKind, format: Format) -> Format
+fn format_brought(kind: CommandKind, format: Format) -> Format
     ensures { result ≡ format_brought kind format }
 {
     match kind {
@@ -36,7 +36,7 @@ impl Session {
     pub(crate) fn govern(&mut self, kind: CommandKind, newer: Option<Policy>)
         ensures { self.new ≡ record (self.old) { format = format_brought kind self.old.format; policy = unwrap_or newer self.old.policy } }
     {
-        self.format = format_after(kind, self.format);
+        self.format = format_brought(kind, self.format);
         if let Some(policy) = newer {
             self.policy = policy;
         }

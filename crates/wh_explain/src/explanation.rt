@@ -11,7 +11,7 @@ use crate::row::push_column;
 use crate::shown::push_text;
 use crate::wanted::push_wanted;
 use std::alloc::{AllocError, Global};
-use wh_admission::Refused;
+use wh_admission::Refusal;
 use wh_batch::{Column, CommandKind};
 use wh_history::Edit;
 use wh_policy::{Format, Policy, Years};
@@ -19,7 +19,7 @@ use wh_rows::{MemberKey, MemberRow};
 
 /// What was sent, and what it is judged by.
 #[derive(Drop)]
-pub struct Sent<'a> {
+pub struct SentCommand<'a> {
     /// What the command is.
     pub kind: CommandKind,
     /// The policy in force.
@@ -101,7 +101,7 @@ pub fn add_first_mentions(
     text.extend_from_slice(&lines)
 }
 
-fn refusal_text(alloc: Global, why: &Refused, sent: &Sent) -> Result<Vec<u8>, AllocError> {
+fn refusal_text(alloc: Global, why: &Refusal, sent: &SentCommand) -> Result<Vec<u8>, AllocError> {
     let mut text = Vec::new(alloc);
     push_refusal(&mut text, alloc, why, sent)?;
     Ok(text)
@@ -111,8 +111,8 @@ fn refusal_text(alloc: Global, why: &Refused, sent: &Sent) -> Result<Vec<u8>, Al
 pub fn add_refusal(
     text: &mut Vec<u8>,
     alloc: Global,
-    why: &Refused,
-    sent: &Sent,
+    why: &Refusal,
+    sent: &SentCommand,
 ) -> Result<(), AllocError>
     ensures { OnOk result (Continues text.old.items text.new.items) }
 {

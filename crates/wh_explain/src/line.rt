@@ -1,9 +1,9 @@
 //! The lines of tickets in a batch, and the commands that sold and withdrew them.
 
-use crate::explanation::Sent;
+use crate::explanation::SentCommand;
 use indexmap::IndexSet;
 use std::alloc::{AllocError, Global};
-use wh_admission::Refused;
+use wh_admission::Refusal;
 use wh_batch::{CommandKind, Kind, Records, read};
 use wh_day::{NaturalKey, ParseError, Value};
 use wh_policy::{Format, Policy, SaleRecord, VoidRecord};
@@ -252,7 +252,7 @@ fn add_voids(lines: &mut TracedLines, voids: &[VoidRecord]) -> Result<(), AllocE
 fn lines_sent(
     alloc: Global,
     kind: Kind,
-    sent: &Sent,
+    sent: &SentCommand,
     number: u64,
 ) -> Result<Option<TracedLines>, AllocError> {
     let Some(records) = records_in(alloc, kind, sent.policy, sent.format, sent.bytes)? else {
@@ -270,14 +270,14 @@ fn lines_sent(
 /// The lines of a batch that is refused for one of them, which is there already or doesn't stand. No command is noted yet.
 pub fn refused_lines(
     alloc: Global,
-    why: &Refused,
-    sent: &Sent,
+    why: &Refusal,
+    sent: &SentCommand,
 ) -> Result<Option<TracedLines>, AllocError> {
     match (why, sent.kind) {
-        (Refused::LineThere(number), CommandKind::Batch(kind)) => {
+        (Refusal::LineThere(number), CommandKind::Batch(kind)) => {
             lines_sent(alloc, kind, sent, *number)
         }
-        (Refused::NoLine(number), CommandKind::Batch(kind)) => {
+        (Refusal::NoLine(number), CommandKind::Batch(kind)) => {
             lines_sent(alloc, kind, sent, *number)
         }
         _ => Ok(None),

@@ -1,13 +1,13 @@
 //! The lines on a refusal.
 
 use crate::batch::{Batch, push_faults};
-use crate::explanation::Sent;
+use crate::explanation::SentCommand;
 use crate::line_texts::push_refused_lines;
 use crate::policy::{push_bad_policy, push_unfit};
 use crate::shown::push_text;
 use std::alloc::{AllocError, Global};
-use wh_admission::{Limit, Refused};
-use wh_batch::{CommandKind, Kind, columns, faults};
+use wh_admission::{Limit, Refusal};
+use wh_batch::{CommandKind, Kind, columns_of, faults};
 use wh_day::ParseError;
 use wh_policy::Policy;
 
@@ -19,7 +19,7 @@ fn push_batch(
     text: &mut Vec<u8>,
     alloc: Global,
     kind: Kind,
-    sent: &Sent,
+    sent: &SentCommand,
 ) -> Result<(), AllocError> {
     let found = faults(
         alloc,
@@ -29,7 +29,7 @@ fn push_batch(
         sent.bytes,
         MOST_FAULTS,
     )?;
-    let columns = columns(alloc, kind, sent.policy, sent.format)?;
+    let columns = columns_of(alloc, kind, sent.policy, sent.format)?;
     let batch = Batch {
         columns: &columns,
         years: sent.policy.years,
@@ -39,7 +39,11 @@ fn push_batch(
 }
 
 /// What a policy that doesn't fit lacks.
-fn push_unfit_policy(text: &mut Vec<u8>, alloc: Global, sent: &Sent) -> Result<(), AllocError> {
+fn push_unfit_policy(
+    text: &mut Vec<u8>,
+    alloc: Global,
+    sent: &SentCommand,
+) -> Result<(), AllocError> {
     match Policy::read(alloc, sent.bytes) {
         Ok(newer) => push_unfit(text, sent.policy, &newer),
         Err(ParseError::Fault(fault)) => push_bad_policy(text, alloc, fault, sent.bytes),
@@ -48,7 +52,7 @@ fn push_unfit_policy(text: &mut Vec<u8>, alloc: Global, sent: &Sent) -> Result<(
 }
 
 /// The lines of tickets for which a batch is refused.
-fn push_lines(text: &mut Vec<u8>, alloc: Global, sent: &Sent) -> Result<(), AllocError> {
+fn push_lines(text: &mut Vec<u8>, alloc: Global, sent: &SentCommand) -> Result<(), AllocError> {
     match &sent.lines {
         Some(lines) => push_refused_lines(text, alloc, lines, sent.bytes),
         None => Ok(()),
@@ -71,21 +75,21 @@ fn push_full(text: &mut Vec<u8>, limit: Limit) -> Result<(), AllocError> {
 pub(crate) fn push_refusal(
     text: &mut Vec<u8>,
     alloc: Global,
-    why: &Refused,
-    sent: &Sent,
+    why: &Refusal,
+    sent: &SentCommand,
 ) -> Result<(), AllocError> {
     match (why, sent.kind) {
-        (Refused::Batch(_), CommandKind::Batch(kind)) => push_batch(text, alloc, kind, sent),
-        (Refused::LineThere(_), _) => push_lines(text, alloc, sent),
-        (Refused::NoLine(_), _) => push_lines(text, alloc, sent),
-        (Refused::Policy(fault), _) => push_bad_policy(text, alloc, *fault, sent.bytes),
-        (Refused::Unfit, _) => push_unfit_policy(text, alloc, sent),
-        (Refused::Upgraded, _) => push_text(text, "the warehouse has format 2 already\n"),
-        (Refused::NameTaken, _) => push_text(
+        (Refusal::Batch(_), CommandKind::Batch(kind)) => push_batch(text, alloc, kind, sent),
+        (Refusal::LineThere(_), _) => push_lines(text, alloc, sent),
+        (Refusal::NoLine(_), _) => push_lines(text, alloc, sent),
+        (Refusal::Policy(fault), _) => push_bad_policy(text, alloc, *fault, sent.bytes),
+        (Refusal::Unfit, _) => push_unfit_policy(text, alloc, sent),
+        (Refusal::Upgraded, _) => push_text(text, "the warehouse has format 2 already\n"),
+        (Refusal::NameTaken, _) => push_text(
             text,
             "a table, an index or a view of another program has the name fact2 or void\n",
         ),
-        (Refused::Full(limit), _) => push_full(text, *limit),
+        (Refusal::Full(limit), _) => push_full(text, *limit),
         _ => Ok(()),
     }
 }

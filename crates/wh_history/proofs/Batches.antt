@@ -18,7 +18,7 @@ use Rattle.wh_day.specs.Value.{none_text}
 use Rattle.wh_history.specs.Slots.{padded}
 use Rattle.wh_history.proofs.Lasts.{fresh_one}
 use Rattle.wh_history.proofs.Once.{IsOnce, among_distinct, once_distinct, apart}
-use Rattle.wh_history.specs.Touched.{grown, anchor_of_day, with_record, Touched, current, with_member, touch_member, touch, touched, untouched, touched_by, given_or}
+use Rattle.wh_history.specs.Touched.{grown, anchor_of_day, with_record, TouchedMembers, current, with_member, touch_member, touch, touched, untouched, touched_by, given_or}
 use Rattle.wh_history.proofs.Growth.{anchors-append}
 use Rattle.wh_history.proofs.Owners as behind
 use Rattle.wh_history.proofs.Records.{durable_after, member_after, members_after, anchors_after}
@@ -91,7 +91,7 @@ module _ (dim : Dim) (commands : List Accepted) (id kind bytes : List ℕ) where
   member_stays natural rs h = member-last dim commands (batch rs) natural (unmentioned natural rs h)
 
   -- where the batch stands after some of its records
-  abbrev pub state : List DimensionRecord → Touched
+  abbrev pub state : List DimensionRecord → TouchedMembers
   state rs = touched_by dim commands (after rs) rs
 
   abbrev pub naturals : List DimensionRecord → List (List ℕ)
@@ -200,7 +200,7 @@ module _ (dim : Dim) (commands : List Accepted) (id kind bytes : List ℕ) where
       ap (λ t. touched (member_of dim commands) t rs) (touch_is done r) ∙ touched_from (done ++ r ∷ []) rs ∙ ap state (append_assoc done (r ∷ []) rs)
 
   -- nothing of the batch yet
-  abbrev pub start : Touched
+  abbrev pub start : TouchedMembers
   start = untouched (length (members dim commands)) (length (anchors dim commands))
 
   mentions_none : mentions dim (after []) ≡ mentions dim commands

@@ -19,7 +19,7 @@ use Rattle.wh_history.specs.declared.member.Change.{Change}
 use Rattle.wh_history.specs.declared.member.Member.{Member}
 use Rattle.wh_history.specs.declared.rows.DimRow.{DimRow}
 use Rattle.wh_history.specs.declared.facts.Fact.{Fact}
-use Rattle.wh_history.specs.declared.profiles.Numbered.{Numbered}
+use Rattle.wh_history.specs.declared.profiles.NumberedProfile.{NumberedProfile}
 use Rattle.wh_history.proofs.Joins.{all_dated}
 use Rattle.wh_history.proofs.Stays.{IfThere, all_newest, all_at}
 
@@ -68,7 +68,7 @@ numbered_last : (next : ℕ) (combinations : List (List (List ℕ))) (texts : Li
 numbered_last next [] texts = let same : next ≡ 0 + next = omega arith in ap (λ n. record { texts = texts; number = n } ∷ []) same
 numbered_last next (c ∷ cs) texts =
     let same : length cs + suc next ≡ suc (length cs) + next = omega arith in
-    ap (λ (ks : List Numbered). record { texts = c; number = next } ∷ ks) (numbered_last (suc next) cs texts ∙ ap (λ n. numbered_from (suc next) cs ++ record { texts = texts; number = n } ∷ []) same)
+    ap (λ (ks : List NumberedProfile). record { texts = c; number = next } ∷ ks) (numbered_last (suc next) cs texts ∙ ap (λ n. numbered_from (suc next) cs ++ record { texts = texts; number = n } ∷ []) same)
 
 numbered_long : (next : ℕ) (combinations : List (List (List ℕ))) → length (numbered_from next combinations) ≡ length combinations
 numbered_long next [] = refl
@@ -77,16 +77,16 @@ numbered_long next (c ∷ cs) = ap suc (numbered_long (suc next) cs)
 abbrev pub with_next : List (List (List ℕ)) → List (List ℕ) → List (List (List ℕ))
 with_next combinations texts = cond (list_any (λ c. are_same c texts) combinations) combinations (combinations ++ texts ∷ [])
 
-pub next_there : (known : List Numbered) (combinations : List (List (List ℕ))) (texts : List (List ℕ)) (n : ℕ) → number_in known texts ≡ Some n → known ≡ all_numbered combinations → known ≡ all_numbered (with_next combinations texts)
+pub next_there : (known : List NumberedProfile) (combinations : List (List (List ℕ))) (texts : List (List ℕ)) (n : ℕ) → number_in known texts ≡ Some n → known ≡ all_numbered combinations → known ≡ all_numbered (with_next combinations texts)
 next_there known combinations texts n found all =
     let any : list_any (λ c. are_same c texts) combinations ≡ true = there_is 2 combinations texts ∙ ap (λ ks. is_there (number_in ks texts)) (sym all) ∙ ap is_there found in
     all ∙ sym (ap (λ b. all_numbered (cond b combinations (combinations ++ texts ∷ []))) any)
 
-pub next_new : (known : List Numbered) (combinations : List (List (List ℕ))) (texts : List (List ℕ)) (count : ℕ) → count ≡ length known → number_in known texts ≡ None → known ≡ all_numbered combinations
+pub next_new : (known : List NumberedProfile) (combinations : List (List (List ℕ))) (texts : List (List ℕ)) (count : ℕ) → count ≡ length known → number_in known texts ≡ None → known ≡ all_numbered combinations
     → known ++ record { texts = texts; number = count + 2 } ∷ [] ≡ all_numbered (with_next combinations texts)
 next_new known combinations texts count many found all =
     let none : list_any (λ c. are_same c texts) combinations ≡ false = there_is 2 combinations texts ∙ ap (λ ks. is_there (number_in ks texts)) (sym all) ∙ ap is_there found in
-    let long : count ≡ length combinations = many ∙ ap (λ (ks : List Numbered). length ks) all ∙ numbered_long 2 combinations in
+    let long : count ≡ length combinations = many ∙ ap (λ (ks : List NumberedProfile). length ks) all ∙ numbered_long 2 combinations in
     ap (λ n. known ++ record { texts = texts; number = n + 2 } ∷ []) long
     ∙ ap (λ ks. ks ++ record { texts = texts; number = length combinations + 2 } ∷ []) all
     ∙ sym (numbered_last 2 combinations texts)

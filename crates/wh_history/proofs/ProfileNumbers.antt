@@ -4,7 +4,7 @@ use Rattle.std.specs.Prelude.{option_map, unwrap_or}
 use Rattle.std.specs.List.{list_any}
 use Rattle.std.proofs.lemmas.Grind.{flat_map-append}
 use Rattle.std.proofs.lemmas.List.{map-append}
-use Rattle.wh_policy.specs.Policy.{types_of}
+use Rattle.wh_policy.specs.Policy.{policy_types}
 use Rattle.wh_policy.specs.Types.{is_profile}
 use Rattle.wh_policy.specs.declared.attribute.Dim.TheVariants.{Customer}
 use Rattle.wh_policy.specs.declared.attribute.AttributeType.{AttributeType}
@@ -49,7 +49,7 @@ module _ (old new : List Accepted) (none : list_any (λ c. governs c.content) ne
   profiles_grow : profiles_of (old ++ new) ≡ profiles_of old ++ later
   profiles_grow =
       let policy : policy_after None (old ++ new) ≡ policy_after None old = policy_goes_on None old new ∙ policy_same (policy_after None old) new none in
-      let types : types_in Customer (old ++ new) ≡ types_in Customer old = ap (λ (p : Option Policy). unwrap_or (option_map (λ policy. types_of policy Customer) p) []) policy in
+      let types : types_in Customer (old ++ new) ≡ types_in Customer old = ap (λ (p : Option Policy). unwrap_or (option_map (λ policy. policy_types policy Customer) p) []) policy in
       ap (λ (kinds : List AttributeType). distinct are_same (map (λ (r : DimensionRecord). picks is_profile kinds r.values) (described Customer (old ++ new)))) types
       ∙ ap (λ (rs : List DimensionRecord). distinct are_same (map pick rs)) (flat_map-append (λ (c : Accepted). described_by Customer c.content) old new)
       ∙ ap (distinct are_same) (map-append pick (described Customer old) (described Customer new))

@@ -5,7 +5,7 @@ use Rattle.std.specs.List.{list_any, AllByRecursion}
 use Rattle.std.proofs.lemmas.List.{map-append}
 use Rattle.wh_day.specs.Value.{none_text}
 use Rattle.wh_history.specs.Keys.{distinct, place}
-use Rattle.wh_policy.specs.Policy.{types_of}
+use Rattle.wh_policy.specs.Policy.{policy_types}
 use Rattle.wh_policy.specs.Types.{is_profile, is_outrigger}
 use Rattle.wh_history.specs.Slots.{columns_from, picked, picks, padded, are_same}
 use Rattle.wh_history.specs.Dated.{at, dated, newest}
@@ -39,7 +39,7 @@ policy_last before [] c h = governed_same before c.content h
 policy_last before (d ∷ commands) c h = policy_last (governed before d.content) commands c h
 
 pub types-last : (dim : Dim) (commands : List Accepted) (c : Accepted) → governs c.content ≡ false → types_in dim (commands ++ c ∷ []) ≡ types_in dim commands
-types-last dim commands c h = ap (λ (p : Option Policy). unwrap_or (option_map (λ policy. types_of policy dim) p) []) (policy_last None commands c h)
+types-last dim commands c h = ap (λ (p : Option Policy). unwrap_or (option_map (λ policy. policy_types policy dim) p) []) (policy_last None commands c h)
 
 -- the slots of padded values are those of the values
 slot_filled : (k place : ℕ) → get_or (replicate k none_text) place none_text ≡ none_text

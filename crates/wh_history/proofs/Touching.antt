@@ -4,7 +4,7 @@ use Rattle.std.specs.Prelude.{bytes_eq, find, slice_get, unwrap_or}
 use Rattle.std.specs.List.{list_any, position_or_len}
 use Rattle.std.proofs.lemmas.Slice.Eq.{bytes_eq-Decides}
 use Rattle.wh_policy.specs.declared.record.DimensionRecord.{DimensionRecord}
-use Rattle.wh_history.specs.Touched.{Touched, current, with_stored, with_record, with_member, anchors_with, given_or, grown, touch_member, touch}
+use Rattle.wh_history.specs.Touched.{TouchedMembers, current, with_stored, with_record, with_member, anchors_with, given_or, grown, touch_member, touch}
 use Rattle.wh_history.specs.declared.member.Member.{Member}
 use Rattle.wh_history.proofs.Basics.{or_none, first_or}
 
@@ -117,7 +117,7 @@ map_set v [] i x m is same = cc
 map_set v (y ∷ ys) zero x m is same = let here : y ≡ x = cc in ap (λ z. z ∷ map v ys) (same ∙ ap v (sym here))
 map_set v (y ∷ ys) (suc i) x m is same = ap (λ zs. v y ∷ zs) (map_set v ys i x m is same)
 
-module _ (stored : List ℕ → Member) (t : Touched) (r : DimensionRecord) (place : ℕ) (list : List Member) (list_is : list ≡ with_stored stored t.list r.natural) (place_is : place ≡ Index stored r.natural t.list) where
+module _ (stored : List ℕ → Member) (t : TouchedMembers) (r : DimensionRecord) (place : ℕ) (list : List Member) (list_is : list ≡ with_stored stored t.list r.natural) (place_is : place ≡ Index stored r.natural t.list) where
   abbrev here : Member
   here = current stored t.list r.natural
 

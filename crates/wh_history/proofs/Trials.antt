@@ -6,7 +6,7 @@ use Rattle.std.specs.List.{range_with_len, cons_option, AllByRecursion}
 use Rattle.std.proofs.lemmas.List.{append_assoc}
 use Rattle.std.proofs.lemmas.Simd.{map-map}
 use Rattle.std.proofs.lemmas.Slice.Eq.{bytes_eq-Decides}
-use Rattle.wh_policy.specs.Policy.{types_of}
+use Rattle.wh_policy.specs.Policy.{policy_types}
 use Rattle.wh_policy.specs.declared.policy.Policy.{Policy}
 use Rattle.wh_policy.specs.declared.attribute.Dim.{Dim}
 use Rattle.wh_policy.specs.declared.attribute.Dim.TheVariants.{Product, Store, Customer}
@@ -18,10 +18,10 @@ use Rattle.wh_history.specs.Known.{number_in, all_numbered}
 use Rattle.wh_history.specs.Plan.{row_of}
 use Rattle.wh_history.specs.Accepted.{Accepted, Governs, Anchor, anchors_of_record, anchors, members, durable_key, member_of, types_in, profiles_of}
 use Rattle.wh_history.specs.Tables.{member_rows, numbered_row, dimension_row, dimension_table, unnamed, trial_commands}
-use Rattle.wh_history.specs.Touched.{Touched, touched, untouched, nothing_stored}
+use Rattle.wh_history.specs.Touched.{TouchedMembers, touched, untouched, nothing_stored}
 use Rattle.wh_history.specs.Picked.{first_rows, profiles_in, owned_row, picked_from}
 use Rattle.wh_history.specs.declared.rows.DimRow.{DimRow}
-use Rattle.wh_history.specs.declared.profiles.Numbered.{Numbered}
+use Rattle.wh_history.specs.declared.profiles.NumberedProfile.{NumberedProfile}
 use Rattle.wh_history.proofs.Knowing.{rows_of_all}
 use Rattle.wh_history.proofs.Places.{at_place-place}
 use Rattle.wh_history.proofs.Members.{row_of_member_now}
@@ -116,17 +116,17 @@ module _ (policy : Policy) (dim : Dim) (records : List DimensionRecord) where
   naturals_are : distinct bytes_eq (map (λ r. r.natural) records) ≡ members dim whole
   naturals_are = sym (ap (λ (ms : List Anchor). distinct bytes_eq (map (λ (a : Anchor). a.natural) ms)) (mentions_after dim making [] [] [] records) ∙ ap (distinct bytes_eq) (mentioned_twice records) ∙ distinct_twice (map (λ r. r.natural) records))
 
-  profiles_are : profiles_in dim (types_of policy dim) records ≡ profiles_of whole
-  profiles_are = elim dim as (λ d. profiles_in d (types_of policy d) records ≡ profiles_of (trial_commands policy d records)) [
+  profiles_are : profiles_in dim (policy_types policy dim) records ≡ profiles_of whole
+  profiles_are = elim dim as (λ d. profiles_in d (policy_types policy d) records ≡ profiles_of (trial_commands policy d records)) [
     | Product ↦ refl
     | Store ↦ refl
-    | Customer ↦ ap (combinations_of (types_of policy Customer)) (sym (append-nil records))
+    | Customer ↦ ap (combinations_of (policy_types policy Customer)) (sym (append-nil records))
   ]
 
-  pub trial_is : (t : Touched) → t ≡ touched nothing_stored (untouched 0 0) records
-      → first_rows dim (types_of policy dim) ++ picked_from (map (rows (types_of policy dim) (profiles_in dim (types_of policy dim) records)) t.list) 1 t.owners ≡ dimension_table whole dim
+  pub trial_is : (t : TouchedMembers) → t ≡ touched nothing_stored (untouched 0 0) records
+      → first_rows dim (policy_types policy dim) ++ picked_from (map (rows (policy_types policy dim) (profiles_in dim (policy_types policy dim) records)) t.list) 1 t.owners ≡ dimension_table whole dim
   trial_is t is =
-      let kinds = types_of policy dim in
+      let kinds = policy_types policy dim in
       let row_of_owners = λ (rs : List (List DimRow)). first_rows dim kinds ++ picked_from rs 1 (map (owner dim whole) (anchors dim whole)) in
       let rows_are : map (rows kinds (profiles_in dim kinds records)) (map (member_of dim whole) (distinct bytes_eq (map (λ r. r.natural) records))) ≡ rows_by_member dim whole =
       map-map (rows kinds (profiles_in dim kinds records)) (member_of dim whole) (distinct bytes_eq (map (λ r. r.natural) records))
@@ -135,10 +135,10 @@ module _ (policy : Policy) (dim : Dim) (records : List DimensionRecord) where
       rw (is ∙ touched_is dim making [] [] [] records) (ap row_of_owners rows_are ∙ table_is dim whole)
 
   -- the same by its parts
-  pub made_is : (t : Touched) (known : List Numbered) (of_members : List (List DimRow)) (front table : List DimRow)
-      → t ≡ touched nothing_stored (untouched 0 0) records → known ≡ all_numbered (profiles_in dim (types_of policy dim) records) → of_members ≡ map (rows_by (types_of policy dim) (number_in known)) t.list
-      → front ≡ first_rows dim (types_of policy dim) → table ≡ front ++ picked_from of_members 1 t.owners → table ≡ dimension_table whole dim
+  pub made_is : (t : TouchedMembers) (known : List NumberedProfile) (of_members : List (List DimRow)) (front table : List DimRow)
+      → t ≡ touched nothing_stored (untouched 0 0) records → known ≡ all_numbered (profiles_in dim (policy_types policy dim) records) → of_members ≡ map (rows_by (policy_types policy dim) (number_in known)) t.list
+      → front ≡ first_rows dim (policy_types policy dim) → table ≡ front ++ picked_from of_members 1 t.owners → table ≡ dimension_table whole dim
   made_is t known of_members front table is numbered rendered first made =
-      let all : of_members ≡ map (rows (types_of policy dim) (profiles_in dim (types_of policy dim) records)) t.list =
-      rendered ∙ ap (λ ks. map (rows_by (types_of policy dim) (number_in ks)) t.list) numbered ∙ rows_of_all (types_of policy dim) (profiles_in dim (types_of policy dim) records) t.list in
+      let all : of_members ≡ map (rows (policy_types policy dim) (profiles_in dim (policy_types policy dim) records)) t.list =
+      rendered ∙ ap (λ ks. map (rows_by (policy_types policy dim) (number_in ks)) t.list) numbered ∙ rows_of_all (policy_types policy dim) (profiles_in dim (policy_types policy dim) records) t.list in
       rw (made, first, all) (trial_is t is)

@@ -2,7 +2,7 @@
 use Rattle.std.specs.Prelude.{ℕ, ◌+◌, ◌-◌, Bool, true, false, if◌then◌else◌, ◌==◌, ◌&&◌, not, List, [], ◌∷◌, ◌++◌, map, flat_map, filter, length, take, Option, Some, None, option_map, option_to_list, unwrap_or, bytes_eq, nat_eq}
 use Rattle.std.specs.List.{list_any}
 use Rattle.wh_day.specs.Value.{none_text}
-use Rattle.wh_policy.specs.Policy.{types_of}
+use Rattle.wh_policy.specs.Policy.{policy_types}
 use Rattle.wh_policy.specs.declared.format.Format.{Format}
 use Rattle.wh_policy.specs.declared.format.Format.TheVariants.{One, Two}
 use Rattle.wh_policy.specs.declared.policy.Policy.{Policy}
@@ -74,7 +74,7 @@ format_of commands = format_after One commands
 
 -- the types of a dimension's slots under the policy in force
 abbrev pub types_in : Dim → List Accepted → List AttributeType
-types_in dim commands = unwrap_or (option_map (λ policy. types_of policy dim) (policy_after None commands)) []
+types_in dim commands = unwrap_or (option_map (λ policy. policy_types policy dim) (policy_after None commands)) []
 
 -- the records of a dimension that a command holds
 abbrev pub described_by : Dim → Content → List DimensionRecord

@@ -9,19 +9,19 @@ use Rattle.wh_history.specs.Profiles.{profile_number}
 use Rattle.wh_history.specs.Slots.{picks, are_same}
 use Rattle.wh_history.specs.declared.member.Change.{Change}
 use Rattle.wh_history.specs.declared.member.Member.{Member}
-use Rattle.wh_history.specs.declared.profiles.Numbered.{Numbered}
+use Rattle.wh_history.specs.declared.profiles.NumberedProfile.{NumberedProfile}
 
 -- the number that is known of a combination, if one is
-abbrev pub number_in : List Numbered → List (List ℕ) → Option ℕ
+abbrev pub number_in : List NumberedProfile → List (List ℕ) → Option ℕ
 number_in known texts = option_map (λ k. k.number) (find (λ k. are_same k.texts texts) known)
 
 -- combinations with their numbers, from one on
-abbrev pub numbered_from : ℕ → List (List (List ℕ)) → List Numbered
+abbrev pub numbered_from : ℕ → List (List (List ℕ)) → List NumberedProfile
 numbered_from next [] = []
 numbered_from next (texts ∷ more) = record { texts = texts; number = next } ∷ numbered_from (suc next) more
 
 -- all combinations that were accepted, with their numbers: the first has 2
-abbrev pub all_numbered : List (List (List ℕ)) → List Numbered
+abbrev pub all_numbered : List (List (List ℕ)) → List NumberedProfile
 all_numbered = numbered_from 2
 
 -- the combinations of some changes are known: a function gives them the numbers that they have among all combinations

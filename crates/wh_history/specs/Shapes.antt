@@ -8,7 +8,7 @@ use Rattle.wh_history.specs.Known.{number_in}
 use Rattle.wh_history.specs.Profiles.{profile_number}
 use Rattle.wh_history.specs.Rows.{rows_by}
 use Rattle.wh_history.specs.declared.dimension.DimensionShape.{DimensionShape}
-use Rattle.wh_history.specs.declared.dimension.Rendered.{Rendered}
+use Rattle.wh_history.specs.declared.dimension.RenderedRows.{RenderedRows}
 use Rattle.wh_history.specs.declared.member.Change.{Change}
 use Rattle.wh_history.specs.declared.member.Member.{Member}
 use Rattle.wh_history.specs.declared.rows.DimRow.{DimRow}
@@ -28,8 +28,8 @@ abbrev pub shape_after : Dim → List Accepted → Shape
 shape_after dim commands = record { dim = dim; kinds = types_in dim commands; number = profile_number (profiles_of commands) }
 
 -- a member's rows, in order of their starts
-abbrev pub rows_in : Shape → Member → List DimRow
-rows_in shape m = rows_by shape.kinds shape.number m
+abbrev pub shape_rows : Shape → Member → List DimRow
+shape_rows shape m = rows_by shape.kinds shape.number m
 
 -- a member with its rows, and its changes in order of their days
 pub record RenderedMember : Type 0 where
@@ -38,8 +38,8 @@ pub record RenderedMember : Type 0 where
   pub dated : List Change
 
 abbrev pub rendered_in : Shape → Member → RenderedMember
-rendered_in shape m = record { member = m; rows = rows_in shape m; dated = dated m.changes }
+rendered_in shape m = record { member = m; rows = shape_rows shape m; dated = dated m.changes }
 
 -- what a call made of it
-abbrev pub shown : Rendered → RenderedMember
+abbrev pub shown : RenderedRows → RenderedMember
 shown r = record { member = r.member.now; rows = r.rows.items; dated = map (λ c. c.now) r.dated.items }

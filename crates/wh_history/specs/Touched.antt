@@ -51,7 +51,7 @@ anchors_with anchors m r = grown (anchor_of_day r.day m.changes) (grown m.openin
 
 -- how many numbers are given, the durable key of the member of each anchor that got one, and the members that were
 -- touched, in order of first mention
-pub record Touched : Type 0 where
+pub record TouchedMembers : Type 0 where
   pub members : ℕ
   pub anchors : ℕ
   pub owners : List ℕ
@@ -71,7 +71,7 @@ with_member m [] = m ∷ []
 with_member m (t ∷ ts) = if bytes_eq t.natural m.natural then m ∷ ts else t ∷ with_member m ts
 
 -- one record more
-abbrev pub touch_member : Touched → Member → DimensionRecord → Touched
+abbrev pub touch_member : TouchedMembers → Member → DimensionRecord → TouchedMembers
 touch_member t m r = record {
   members = grown m.durable t.members;
   anchors = anchors_with t.anchors m r;
@@ -79,16 +79,16 @@ touch_member t m r = record {
   list = with_member (with_record t.members t.anchors m r) t.list;
 }
 
-abbrev pub touch : (List ℕ → Member) → Touched → DimensionRecord → Touched
+abbrev pub touch : (List ℕ → Member) → TouchedMembers → DimensionRecord → TouchedMembers
 touch stored t r = touch_member t (current stored t.list r.natural) r
 
 -- all records, in their order
-abbrev pub touched : (List ℕ → Member) → Touched → List DimensionRecord → Touched
+abbrev pub touched : (List ℕ → Member) → TouchedMembers → List DimensionRecord → TouchedMembers
 touched stored t [] = t
 touched stored t (r ∷ rs) = touched stored (touch stored t r) rs
 
 -- none yet, where so many members and anchors have numbers
-abbrev pub untouched : ℕ → ℕ → Touched
+abbrev pub untouched : ℕ → ℕ → TouchedMembers
 untouched members anchors = record { members = members; anchors = anchors; owners = []; list = [] }
 
 -- no member is stored
@@ -100,7 +100,7 @@ abbrev pub with_batch : List Accepted → List ℕ → List ℕ → List ℕ →
 with_batch commands id kind bytes dim records = commands ++ record { id = id; kind = kind; bytes = bytes; content = Describes dim records } ∷ []
 
 -- what the accepted lists before and with a batch of these records say of the members that it touches
-abbrev pub touched_by : Dim → List Accepted → List Accepted → List DimensionRecord → Touched
+abbrev pub touched_by : Dim → List Accepted → List Accepted → List DimensionRecord → TouchedMembers
 touched_by dim before after records = record {
   members = length (members dim after);
   anchors = length (anchors dim after);

@@ -45,7 +45,7 @@ pub fn dated(alloc: Global, changes: &[Change]) -> Result<Vec<&Change>, AllocErr
 }
 
 /// Of changes in order of their days, the one that says what holds at the day.
-pub fn change_at<'a>(dated: &[&'a Change], day: Day) -> Option<&'a Change>
+pub fn change_on<'a>(dated: &[&'a Change], day: Day) -> Option<&'a Change>
     ensures { option_copied result ≡ at day (map (λ c. c.now) dated.now) }
 {
     let mut found: Option<&'a Change> = None;
@@ -137,7 +137,7 @@ pub fn value_at(
     ensures { IfOk result (λ t. t ≡ value_at day place changes.now) }
 {
     let dated = dated(alloc, changes)?;
-    said(alloc, change_at(&dated, day), place)
+    said(alloc, change_on(&dated, day), place)
 }
 
 /// A member's value of the greatest day, as its definition says it. Rows are made without it, as without `value_at`.

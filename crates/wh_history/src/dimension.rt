@@ -2,7 +2,7 @@
 
 ghost use Rattle.std.specs.Prelude.{◌≡◌, IfOk};
 ghost use Rattle.wh_history.specs.Laws.{EachDayHasOneRow, OneRowIsCurrent};
-ghost use Rattle.wh_history.specs.Shapes.{shape_of, rows_in, rendered_in, shown};
+ghost use Rattle.wh_history.specs.Shapes.{shape_of, shape_rows, rendered_in, shown};
 
 use crate::dated::dated;
 use crate::member::{Change, Member};
@@ -28,7 +28,7 @@ pub struct DimensionShape<'a> {
 
 /// A member with its rows, and its changes in order of their days.
 #[derive(Drop)]
-pub struct Rendered<'a> {
+pub struct RenderedRows<'a> {
     /// The member.
     pub member: &'a Member,
     /// Its rows, in order of their starts.
@@ -40,7 +40,7 @@ pub struct Rendered<'a> {
 impl DimensionShape<'_> {
     /// A member's rows, in order of their starts. The error comes where memory ran out.
     pub fn rows_of(&self, alloc: Global, member: &Member) -> Result<Vec<DimRow>, AllocError>
-        ensures rows { IfOk result (λ found. found.items ≡ rows_in (shape_of self.now) member.now) }
+        ensures rows { IfOk result (λ found. found.items ≡ shape_rows (shape_of self.now) member.now) }
         // No two rows overlap, and no day is left out.
         ensures days { IfOk result (λ found. EachDayHasOneRow found.items) }
         ensures current { IfOk result (λ found. OneRowIsCurrent found.items) }
@@ -53,10 +53,10 @@ impl DimensionShape<'_> {
         &self,
         alloc: Global,
         member: &'b Member,
-    ) -> Result<Rendered<'b>, AllocError>
+    ) -> Result<RenderedRows<'b>, AllocError>
         ensures { IfOk result (λ made. shown made ≡ rendered_in (shape_of self.now) member.now) }
     {
-        Ok(Rendered {
+        Ok(RenderedRows {
             member,
             rows: self.rows_of(alloc, member)?,
             dated: dated(alloc, member.changes.as_slice())?,

@@ -4,9 +4,9 @@ ghost use Rattle.std.specs.Prelude.{◌≡◌, filter_map, IfOk};
 ghost use Rattle.wh_history.specs.Facts.{key_in, keys_with, same_keys, profile_on, keys_on, new_keys, rekeyed_fact};
 ghost use Rattle.wh_history.specs.Shapes.{shape_of, shown};
 
-use crate::dated::change_at;
-use crate::dimension::{DimensionShape, Rendered};
-use crate::profiles::current_profile;
+use crate::dated::change_on;
+use crate::dimension::{DimensionShape, RenderedRows};
+use crate::profiles::current_by;
 use crate::rows::DimRow;
 use std::alloc::{AllocError, Global};
 use wh_day::{Day, Value};
@@ -71,7 +71,7 @@ pub struct MemberKeys {
     pub profile: u64,
 }
 
-fn is_same_keys(a: FactKeys, b: FactKeys) -> bool
+fn same_keys(a: FactKeys, b: FactKeys) -> bool
     ensures { result ≡ same_keys a b }
 {
     a.store_key == b.store_key
@@ -113,13 +113,13 @@ fn keys_with(dim: Dim, own: MemberKeys, keys: FactKeys) -> FactKeys
 
 impl DimensionShape<'_> {
     /// The number of a customer's profile on a day. Other members have none.
-    fn profile_on(&self, alloc: Global, member: &Rendered, day: Day) -> Result<u64, AllocError>
+    fn profile_on(&self, alloc: Global, member: &RenderedRows, day: Day) -> Result<u64, AllocError>
         ensures { IfOk result (λ n. n ≡ profile_on (shape_of self.now) (shown member.now) day) }
     {
         match self.dim {
             Dim::Customer => {
-                let change = change_at(&member.dated, day);
-                current_profile(alloc, self.types, self.profiles, change)
+                let change = change_on(&member.dated, day);
+                current_by(alloc, self.types, self.profiles, change)
             }
             _ => Ok(0),
         }
@@ -129,7 +129,7 @@ impl DimensionShape<'_> {
     pub fn keys_on(
         &self,
         alloc: Global,
-        member: &Rendered,
+        member: &RenderedRows,
         day: Day,
     ) -> Result<MemberKeys, AllocError>
         ensures { IfOk result (λ own. own ≡ keys_on (shape_of self.now) (shown member.now) day) }
@@ -145,7 +145,7 @@ impl DimensionShape<'_> {
     fn new_keys(
         &self,
         alloc: Global,
-        member: &Rendered,
+        member: &RenderedRows,
         fact: &Fact,
     ) -> Result<FactKeys, AllocError>
         ensures { IfOk result (λ keys. keys ≡ new_keys (shape_of self.now) (shown member.now) fact.now) }
@@ -158,13 +158,13 @@ impl DimensionShape<'_> {
     fn rekeyed_fact(
         &self,
         alloc: Global,
-        member: &Rendered,
+        member: &RenderedRows,
         fact: &Fact,
     ) -> Result<Option<Fact>, AllocError>
         ensures { IfOk result (λ f. f ≡ rekeyed_fact (shape_of self.now) (shown member.now) fact.now) }
     {
         let new = self.new_keys(alloc, member, fact)?;
-        if is_same_keys(new, fact.keys) {
+        if same_keys(new, fact.keys) {
             return Ok(None);
         }
         Ok(Some(Fact {
@@ -186,7 +186,7 @@ impl DimensionShape<'_> {
     pub fn rekeyed_facts(
         &self,
         alloc: Global,
-        member: &Rendered,
+        member: &RenderedRows,
         facts: &[Fact],
     ) -> Result<Vec<Fact>, AllocError>
         ensures { IfOk result (λ found. found.items ≡ filter_map (rekeyed_fact (shape_of self.now) (shown member.now)) facts.now) }

@@ -18,14 +18,14 @@ mod touched;
 mod trial;
 
 pub use dated::{latest, original, prior, value_at};
-pub use dimension::{DimensionShape, Rendered};
+pub use dimension::{DimensionShape, RenderedRows};
 pub use facts::{Fact, FactKeys, MemberKeys, key_in};
 pub use member::{Change, Changes, Member};
 pub use member_rows::{MemberPlan, render};
 pub use moving_days::moves_since;
 pub use plan::{Edit, PlannedRow, edit_between, plan_rows};
-pub use profiles::{Numbered, Profiles, profile_texts};
+pub use profiles::{NumberedProfile, Profiles, profile_texts};
 pub use rows::{DimRow, GREATEST_NUMBER, row_at};
 pub use slots::{fill_columns, six_texts};
-pub use touched::{MemberSource, Touched, anchor_of_day, give_numbers, touch_all};
+pub use touched::{MemberSource, TouchedMembers, anchor_of_day, give_numbers, touch_all};
 pub use trial::{first_rows, no_card_row, trial_table};

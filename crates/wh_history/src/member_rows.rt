@@ -1,11 +1,11 @@
 //! A member's rows under a policy, and what leads to them from those that are stored.
 
 ghost use Rattle.std.specs.Prelude.{◌≡◌, IfOk, filter_map};
-ghost use Rattle.wh_policy.specs.Policy.{types_of};
+ghost use Rattle.wh_policy.specs.Policy.{policy_types};
 ghost use Rattle.wh_history.specs.Facts.{rekeyed_fact};
 ghost use Rattle.wh_history.specs.Known.{number_in};
 ghost use Rattle.wh_history.specs.Plan.{IsRowPlan, row_of};
-ghost use Rattle.wh_history.specs.Shapes.{shape_of, rows_in, rendered_in};
+ghost use Rattle.wh_history.specs.Shapes.{shape_of, shape_rows, rendered_in};
 
 use crate::dimension::DimensionShape;
 use crate::facts::Fact;
@@ -26,7 +26,7 @@ pub fn render(
     member: &Member,
     profiles: &Profiles,
 ) -> Result<Vec<DimRow>, AllocError>
-    ensures { IfOk result (λ rows. rows.items ≡ rows_in (record { dim = dim; kinds = types_of policy.now dim; number = number_in profiles.now }) member.now) }
+    ensures { IfOk result (λ rows. rows.items ≡ shape_rows (record { dim = dim; kinds = policy_types policy.now dim; number = number_in profiles.now }) member.now) }
 {
     let types = policy.types(alloc, dim)?;
     let shape = DimensionShape {
@@ -58,7 +58,7 @@ impl DimensionShape<'_> {
         facts: &[Fact],
         after: &Member,
     ) -> Result<MemberPlan, AllocError>
-        ensures rows { IfOk result (λ plan. IsRowPlan (λ key. row_of key stored.now) (λ key. row_of key (rows_in (shape_of self.now) after.now)) plan.rows.items) }
+        ensures rows { IfOk result (λ plan. IsRowPlan (λ key. row_of key stored.now) (λ key. row_of key (shape_rows (shape_of self.now) after.now)) plan.rows.items) }
         ensures facts { IfOk result (λ plan. plan.facts.items ≡ filter_map (rekeyed_fact (shape_of self.now) (rendered_in (shape_of self.now) after.now)) facts.now) }
     {
         let rendered = self.rendered(alloc, after)?;

@@ -6,7 +6,7 @@ ghost use Rattle.std.specs.Option.{option_copied};
 ghost use Rattle.wh_history.specs.MovingDays.{before_record, earliest, first_kept, latest_day, moves_since, moves_until};
 ghost use Rattle.wh_history.specs.Shapes.{rendered_in, shape_of, shown};
 
-use crate::dimension::{DimensionShape, Rendered};
+use crate::dimension::{DimensionShape, RenderedRows};
 use crate::facts::key_in;
 use crate::member::{Change, Member};
 use std::alloc::{AllocError, Global};
@@ -79,7 +79,7 @@ fn has_later(changes: &[Change], last: Day) -> bool
 }
 
 /// Of a member's records that are of a later day, by the days, the first whose day keeps its row.
-fn first_kept<'a>(stored: &Rendered<'a>, after: &Rendered, last: Day) -> Option<&'a Change>
+fn first_kept<'a>(stored: &RenderedRows<'a>, after: &RenderedRows, last: Day) -> Option<&'a Change>
     ensures { option_copied result ≡ first_kept (shown stored.now) (shown after.now) last }
 {
     for change in &stored.dated {
@@ -108,7 +108,7 @@ impl DimensionShape<'_> {
         &self,
         alloc: Global,
         stored: &Member,
-        after: &Rendered,
+        after: &RenderedRows,
     ) -> Result<Day, AllocError>
         ensures { IfOk result (λ day. day ≡ moves_until (rendered_in (shape_of self.now) stored.now) (shown after.now)) }
     {

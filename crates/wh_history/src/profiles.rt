@@ -17,7 +17,7 @@ use wh_policy::AttributeType;
 
 /// A combination of profile values with its number.
 #[derive(Debug, Drop)]
-pub struct Numbered {
+pub struct NumberedProfile {
     /// The values, each in its slot.
     pub texts: Values,
     /// The number of its row in the table profile.
@@ -31,27 +31,27 @@ pub struct Numbered {
 /// Type 1 Outrigger".
 #[derive(Debug, Drop)]
 pub struct Profiles {
-    known: Vec<Numbered>,
+    known: Vec<NumberedProfile>,
 }
 
 impl Model for Profiles {
     ghost use Rattle.std.specs.Prelude.{List};
-    ghost use Rattle.wh_history.specs.declared.profiles.Numbered.{Numbered};
+    ghost use Rattle.wh_history.specs.declared.profiles.NumberedProfile.{NumberedProfile};
 
-    ghost Value = { List Numbered };
+    ghost Value = { List NumberedProfile };
 
     ghost view = { λ a. a.known.items };
 }
 
 /// A combination with its number, if it is known.
-fn known_as<'a>(known: &'a [Numbered], texts: &[Value]) -> Option<&'a Numbered>
+fn known_as<'a>(known: &'a [NumberedProfile], texts: &[Value]) -> Option<&'a NumberedProfile>
     ensures { option_copied result ≡ find (λ k. are_same k.texts texts.now) known.now }
 {
     known.iter().find(|k| are_same(k.texts.as_slice(), texts))
 }
 
 /// The number that is known of a combination.
-fn number_known(known: &[Numbered], texts: &[Value]) -> Option<u64>
+fn number_in(known: &[NumberedProfile], texts: &[Value]) -> Option<u64>
     ensures { result ≡ number_in known.now texts.now }
 {
     match known_as(known, texts) {
@@ -74,7 +74,7 @@ impl Profiles {
     pub fn number(&self, texts: &[Value]) -> Option<u64>
         ensures { result ≡ number_in self.now texts.now }
     {
-        number_known(self.known.as_slice(), texts)
+        number_in(self.known.as_slice(), texts)
     }
 
     /// Adds a combination with its number. After an `Err` all is as before.
@@ -82,7 +82,7 @@ impl Profiles {
         ensures ok { OnOk result (self.new ≡ self.old ++ record { texts = texts; number = number } ∷ []) }
         ensures err { OnErr result (self.new ≡ self.old) }
     {
-        self.known.push(Numbered { texts, number })?;
+        self.known.push(NumberedProfile { texts, number })?;
         Ok(())
     }
 
@@ -122,7 +122,7 @@ pub fn profile_texts(
 }
 
 /// The number of the combination among a record's values, and 0 where it has none.
-fn number_of(
+fn known_number(
     alloc: Global,
     types: &[AttributeType],
     profiles: &Profiles,
@@ -142,7 +142,7 @@ fn has_outrigger(types: &[AttributeType]) -> bool
 }
 
 /// The number of the combination that a change says, and 1 where none says one.
-pub(crate) fn current_profile(
+pub(crate) fn current_by(
     alloc: Global,
     types: &[AttributeType],
     profiles: &Profiles,
@@ -152,12 +152,12 @@ pub(crate) fn current_profile(
 {
     match change {
         None => Ok(1),
-        Some(change) => number_of(alloc, types, profiles, change.values.as_slice()),
+        Some(change) => known_number(alloc, types, profiles, change.values.as_slice()),
     }
 }
 
 /// The profile's number that a member's rows show.
-pub(crate) fn profile_now(
+pub(crate) fn newest_profile(
     alloc: Global,
     types: &[AttributeType],
     profiles: &Profiles,
@@ -168,5 +168,5 @@ pub(crate) fn profile_now(
     if !has_outrigger(types) {
         return Ok(0);
     }
-    current_profile(alloc, types, profiles, newest)
+    current_by(alloc, types, profiles, newest)
 }

@@ -13,7 +13,7 @@ ghost use Rattle.wh_history.specs.Laws.{ChangesHaveDays, EachDayHasOneRow, OneRo
 
 use crate::dated::{dated, last_other_than, newest, original, said};
 use crate::member::{Change, Member};
-use crate::profiles::{Profiles, profile_now};
+use crate::profiles::{Profiles, newest_profile};
 use crate::rows::DimRow;
 use crate::slots::fill_columns;
 use std::alloc::{AllocError, Global};
@@ -61,7 +61,7 @@ fn is_same_slot(some: &[Value], other: &[Value], place: usize) -> bool
 }
 
 /// Whether no tracked value differs between two changes.
-fn is_same_tracked(types: &[AttributeType], some: &Change, other: &Change) -> bool
+fn same_tracked(types: &[AttributeType], some: &Change, other: &Change) -> bool
     ensures { result ≡ same_tracked types.now some.now other.now }
 {
     let (a, b) = (some.values.as_slice(), other.values.as_slice());
@@ -74,7 +74,7 @@ fn is_same_tracked(types: &[AttributeType], some: &Change, other: &Change) -> bo
 }
 
 /// What every row shows of a slot in its main column, if that doesn't depend on where the row begins.
-fn steady_text(
+fn steady_column(
     alloc: Global,
     history: &History,
     place: usize,
@@ -93,7 +93,7 @@ fn steady_text(
 }
 
 /// What every row shows of a slot in its second column.
-fn second_text(
+fn second_column(
     alloc: Global,
     history: &History,
     place: usize,
@@ -118,7 +118,7 @@ fn steady_texts(alloc: Global, history: &History) -> Result<Values, AllocError>
 {
     let mut texts = Values::new(alloc);
     for (place, kind) in history.types.iter().enumerate() {
-        texts.push(steady_text(alloc, history, place, *kind)?)?;
+        texts.push(steady_column(alloc, history, place, *kind)?)?;
     }
     Ok(texts)
 }
@@ -129,14 +129,14 @@ fn second_texts(alloc: Global, history: &History) -> Result<Values, AllocError>
 {
     let mut texts = Values::new(alloc);
     for (place, kind) in history.types.iter().enumerate() {
-        texts.push(second_text(alloc, history, place, *kind)?)?;
+        texts.push(second_column(alloc, history, place, *kind)?)?;
     }
     fill_columns(alloc, &mut texts)?;
     Ok(texts)
 }
 
 /// The text at a place, and no text past the end.
-fn text_at(alloc: Global, texts: &[Value], place: usize) -> Result<Value, AllocError>
+fn text_or_empty(alloc: Global, texts: &[Value], place: usize) -> Result<Value, AllocError>
     ensures { IfOk result (λ t. t ≡ slice_index_or texts.now place []) }
 {
     match texts.get(place) {
@@ -159,7 +159,7 @@ fn main_texts(
         let text = if kind.is_tracked() {
             said(alloc, change, place)?
         } else {
-            text_at(alloc, steady, place)?
+            text_or_empty(alloc, steady, place)?
         };
         texts.push(text)?;
     }
@@ -223,7 +223,7 @@ fn render_dated(
     };
     for place in 1..changes.len() {
         let change = changes[place];
-        if is_same_tracked(frame.types, changes[place - 1], change) {
+        if same_tracked(frame.types, changes[place - 1], change) {
             continue;
         }
         found.push(render_row(alloc, frame, &start, day_before(change.day))?)?;
@@ -260,7 +260,7 @@ pub(crate) fn render(
         types,
         steady: steady_texts(alloc, &history)?,
         second: second_texts(alloc, &history)?,
-        profile_now: profile_now(alloc, types, profiles, newest(&dated))?,
+        profile_now: newest_profile(alloc, types, profiles, newest(&dated))?,
     };
     render_dated(alloc, &frame, &dated)
 }

@@ -31,22 +31,22 @@ pub trait MemberSource {
 
 /// The members that were touched, in order of first mention, and how many numbers are given.
 #[derive(Debug, Drop)]
-pub struct Touched {
+pub struct TouchedMembers {
     members: u64,
     anchors: u64,
     owners: Vec<u64>,
     list: Vec<Member>,
 }
 
-impl Model for Touched {
-    ghost use Rattle.wh_history.specs.Touched.{Touched as Members};
+impl Model for TouchedMembers {
+    ghost use Rattle.wh_history.specs.Touched.{TouchedMembers as Members};
 
     ghost Value = { Members };
 
     ghost view = { λ t. record { members = t.members; anchors = t.anchors; owners = t.owners.items; list = t.list.items } };
 }
 
-impl Touched {
+impl TouchedMembers {
     /// For each anchor that the batch gave a surrogate key, in their order, the durable key of its member.
     pub fn owners(&self) -> &[u64]
         ensures { result.now ≡ self.now.owners }
@@ -133,7 +133,7 @@ fn add_record(
     Ok(())
 }
 
-fn stored_member<S: MemberSource>(
+fn source_member<S: MemberSource>(
     alloc: Global,
     stored: &S,
     natural: &NaturalKey,
@@ -146,7 +146,7 @@ fn stored_member<S: MemberSource>(
 }
 
 /// The place of the member with a natural key. One that was not touched before comes from where it is stored.
-fn place_of<S: MemberSource>(
+fn place_or_add<S: MemberSource>(
     alloc: Global,
     stored: &S,
     naturals: &mut IndexSet<String>,
@@ -163,7 +163,7 @@ fn place_of<S: MemberSource>(
     if !is_new {
         return Ok(place);
     }
-    list.push(stored_member(alloc, stored, natural)?)?;
+    list.push(source_member(alloc, stored, natural)?)?;
     Ok(place)
 }
 
@@ -191,7 +191,7 @@ fn touch<S: MemberSource>(
     ensures touched { OnOk result (record { members = touching.new.members; anchors = touching.new.anchors; owners = touching.new.owners.items; list = touching.new.list.items } ≡ touch (S.stored stored.now) (record { members = touching.old.members; anchors = touching.old.anchors; owners = touching.old.owners.items; list = touching.old.list.items }) told.now) }
 {
     let given = touching.anchors;
-    let place = place_of(
+    let place = place_or_add(
         alloc,
         stored,
         &mut touching.naturals,
@@ -219,7 +219,7 @@ pub fn touch_all<S: MemberSource>(
     members: u64,
     anchors: u64,
     records: &[DimensionRecord],
-) -> Result<Touched, ParseError<S::Fault>>
+) -> Result<TouchedMembers, ParseError<S::Fault>>
     requires members { members + length records.now < 2 ^ 64 }
     requires anchors { anchors + 2 * length records.now < 2 ^ 64 }
     ensures { IfOk result (λ t. t ≡ touched (S.stored stored.now) (untouched members anchors) records.now) }
@@ -234,7 +234,7 @@ pub fn touch_all<S: MemberSource>(
     for told in records {
         touch(alloc, stored, &mut touching, told)?;
     }
-    Ok(Touched {
+    Ok(TouchedMembers {
         members: touching.members,
         anchors: touching.anchors,
         owners: touching.owners,

@@ -2,11 +2,11 @@
 
 ghost use Rattle.std.specs.Prelude.{◌≡◌, ◌+◌, ◌*◌, ◌^◌, ◌<◌, ◌++◌, [], length, map, zero, IfOk, OnOk};
 ghost use Rattle.std.specs.Option.{option_copied};
-ghost use Rattle.wh_policy.specs.Policy.{types_of};
+ghost use Rattle.wh_policy.specs.Policy.{policy_types};
 ghost use Rattle.wh_history.specs.Slots.{six, columns_from};
 ghost use Rattle.wh_history.specs.Profiles.{combinations_of};
 ghost use Rattle.wh_history.specs.Known.{all_numbered};
-ghost use Rattle.wh_history.specs.Shapes.{shape_of, rows_in};
+ghost use Rattle.wh_history.specs.Shapes.{shape_of, shape_rows};
 ghost use Rattle.wh_history.specs.Tables.{no_card_main, no_card_second, no_card_row, dimension_table, trial_commands};
 ghost use Rattle.wh_history.specs.Touched.{touched, untouched, nothing_stored};
 ghost use Rattle.wh_history.specs.Picked.{owned_row, picked_from, first_rows, profiles_in};
@@ -16,7 +16,7 @@ use crate::member::Member;
 use crate::profiles::{Profiles, profile_texts};
 use crate::rows::{DimRow, DimRows, row_of};
 use crate::slots::fill_columns;
-use crate::touched::{MemberSource, Touched, touch_all};
+use crate::touched::{MemberSource, TouchedMembers, touch_all};
 use std::alloc::{AllocError, Global};
 use wh_day::{Day, ParseError, Value, Values};
 use wh_policy::{AttributeType, Dim, DimensionRecord, Policy};
@@ -37,7 +37,7 @@ impl MemberSource for NothingStored {
 }
 
 /// The members of the records, which are the first that the dimension gets.
-fn first_members(alloc: Global, records: &[DimensionRecord]) -> Result<Touched, AllocError>
+fn first_members(alloc: Global, records: &[DimensionRecord]) -> Result<TouchedMembers, AllocError>
     ensures { IfOk result (λ t. t ≡ touched nothing_stored (untouched 0 0) records.now) }
 {
     match touch_all(alloc, &NothingStored, 0, 0, records) {
@@ -47,7 +47,7 @@ fn first_members(alloc: Global, records: &[DimensionRecord]) -> Result<Touched, 
 }
 
 /// The combinations of profile values of the records of customers.
-fn profiles_of(
+fn trial_profiles(
     alloc: Global,
     types: &[AttributeType],
     records: &[DimensionRecord],
@@ -72,7 +72,7 @@ fn profiles_in(
 {
     match dim {
         Dim::Product | Dim::Store => Ok(Profiles::new(alloc)),
-        Dim::Customer => profiles_of(alloc, types, records),
+        Dim::Customer => trial_profiles(alloc, types, records),
     }
 }
 
@@ -155,12 +155,12 @@ pub fn first_rows(
 }
 
 /// The rows of each member.
-fn member_rows(
+fn rows_of_each(
     alloc: Global,
     dimension: &DimensionShape,
     members: &[Member],
 ) -> Result<Vec<DimRows>, AllocError>
-    ensures { IfOk result (λ found. found.items ≡ map (rows_in (shape_of dimension.now)) members.now) }
+    ensures { IfOk result (λ found. found.items ≡ map (shape_rows (shape_of dimension.now)) members.now) }
 {
     let mut found = Vec::new(alloc);
     for member in members {
@@ -217,7 +217,7 @@ pub fn trial_table(
         types: &types,
         profiles: &profiles,
     };
-    let rows = member_rows(alloc, &dimension, members.as_slice())?;
+    let rows = rows_of_each(alloc, &dimension, members.as_slice())?;
     let mut table = first_rows(alloc, dim, &types)?;
     pick(alloc, &mut table, &rows, members.owners())?;
     Ok(table)

@@ -5,7 +5,7 @@ use Rattle.std.specs.Option.{option_to_list}
 use Rattle.std.proofs.lemmas.Slice.Eq.{bytes_eq-Decides}
 use Rattle.wh_policy.specs.declared.attribute.Dim.{Dim}
 use Rattle.wh_policy.specs.declared.policy.Policy.{Policy}
-use Rattle.wh_policy.specs.Policy.{types_of}
+use Rattle.wh_policy.specs.Policy.{policy_types}
 use Rattle.wh_history.specs.Keys.{at_place}
 use Rattle.wh_history.specs.Accepted.{Accepted, Anchor, Governs, mentions, members, durable_key, surrogate_key, opening_of, changes_of, member_of, types_in}
 use Rattle.wh_history.specs.Laws.{governs}
@@ -83,5 +83,5 @@ members_anew dim commands c is = ap (map (member_of dim (commands ++ c ∷ [])))
     each (n ∷ ns) = rw (member_governed commands c is dim n, each ns) refl
 
 -- and the types those that the policy gives
-pub types_anew : (dim : Dim) (commands : List Accepted) (c : Accepted) (policy : Policy) → c.content ≡ Governs policy → types_in dim (commands ++ c ∷ []) ≡ types_of policy dim
+pub types_anew : (dim : Dim) (commands : List Accepted) (c : Accepted) (policy : Policy) → c.content ≡ Governs policy → types_in dim (commands ++ c ∷ []) ≡ policy_types policy dim
 types_anew dim commands c policy is = rw (policy_governed None commands c policy is) refl

@@ -18,8 +18,8 @@ use Rattle.wh_history.specs.Rows.{rows}
 use Rattle.wh_history.specs.Laws.{governs}
 use Rattle.wh_history.specs.Shapes.{Shape, RenderedMember, shape_of, shape_after, rendered_in, shown}
 use Rattle.wh_history.specs.Tables.{Limits, fact_of}
-use Rattle.wh_history.specs.declared.dimension.Rendered.{Rendered}
-use Rattle.wh_history.specs.declared.profiles.Numbered.{Numbered}
+use Rattle.wh_history.specs.declared.dimension.RenderedRows.{RenderedRows}
+use Rattle.wh_history.specs.declared.profiles.NumberedProfile.{NumberedProfile}
 use Rattle.wh_history.specs.declared.facts.Fact.{Fact}
 use Rattle.wh_history.specs.declared.facts.FactKeys.{FactKeys}
 use Rattle.wh_history.specs.declared.facts.MemberKeys.{MemberKeys}
@@ -184,7 +184,7 @@ keys_of_sale commands number s there =
 
 -- ---- what is found at a durable key
 
-pub given_at : (d : ShownDimension) (durable day : ℕ) (m : Rendered) → at_place durable d.members.items ≡ Some m → keys_on (shape_of d.dimension) (shown m) day ≡ keys_given (showing d) durable day
+pub given_at : (d : ShownDimension) (durable day : ℕ) (m : RenderedRows) → at_place durable d.members.items ≡ Some m → keys_on (shape_of d.dimension) (shown m) day ≡ keys_given (showing d) durable day
 given_at d durable day m is = sym (ap (λ o. unwrap_or (option_map (λ r. keys_on (shape_of d.dimension) r day) o) no_keys) (at_place-map shown durable d.members.items ∙ ap (option_map shown) is))
 
 pub none_at : (d : ShownDimension) (durable day : ℕ) → at_place durable d.members.items ≡ None → no_keys ≡ keys_given (showing d) durable day
@@ -235,7 +235,7 @@ module _ (commands : List Accepted) (c : Accepted) (is : governs c.content ≡ t
 
 -- ---- what a call shows
 
-shown_is : (dim : Dim) (commands : List Accepted) (read : DimensionMembers) (known : List Numbered) (s : Showing) → AreDimensionMembers dim commands read → known ≡ all_numbered (profiles_of commands) → AreShown read known s → s ≡ shown_all dim commands
+shown_is : (dim : Dim) (commands : List Accepted) (read : DimensionMembers) (known : List NumberedProfile) (s : Showing) → AreDimensionMembers dim commands read → known ≡ all_numbered (profiles_of commands) → AreShown read known s → s ≡ shown_all dim commands
 shown_is dim commands read known s member known_is are =
     let shape_is : s.shape ≡ shape dim commands = are.shape_is ∙ rw (member.dim_is, member.types_are, known_is) refl in
     let list_is : s.list ≡ map (rendered_in (shape dim commands)) (all_members dim commands) = are.list_is ∙ ap (λ sh. map (rendered_in sh) read.members.items) shape_is ∙ ap (map (rendered_in (shape dim commands))) member.members_are in
@@ -243,7 +243,7 @@ shown_is dim commands read known s member known_is are =
     let made : make s.shape s.list ≡ make (shape dim commands) (map (rendered_in (shape dim commands)) (all_members dim commands)) = rw (shape_is, list_is) refl in
     made
 
-pub keys_shown : (commands : List Accepted) (read : WarehouseMembers) (known : List Numbered) (d : ShownDimensions) → AreWarehouseMembers commands read → known ≡ all_numbered (profiles_of commands) → AreAllShown read known d → (f : Fact) → keys_anew d f ≡ keys_all commands f
+pub keys_shown : (commands : List Accepted) (read : WarehouseMembers) (known : List NumberedProfile) (d : ShownDimensions) → AreWarehouseMembers commands read → known ≡ all_numbered (profiles_of commands) → AreAllShown read known d → (f : Fact) → keys_anew d f ≡ keys_all commands f
 keys_shown commands read known d members known_is are f =
     let stores = shown_is Store commands read.stores known (showing d.stores) members.stores known_is are.stores in
     let products = shown_is Product commands read.products known (showing d.products) members.products known_is are.products in

@@ -3,7 +3,7 @@ use Rattle.std.proofs.Common.{◌≡◌, inl, inr, ℕ, suc, ◌+◌, ◌-◌, �
 use Rattle.std.specs.Prelude.{bytes_eq}
 use Rattle.std.proofs.lemmas.Bool.{and_parts, leb-true, le-leb, cases_Bool}
 use Rattle.std.proofs.lemmas.Slice.Eq.{bytes_eq-Decides}
-use Rattle.wh_day.specs.Calendar.{calendar_row}
+use Rattle.wh_day.specs.Calendar.{date_row}
 use Rattle.wh_day.specs.Day.{is_day, year_of, day_of_month}
 use Rattle.wh_day.specs.declared.calendar.DateRow.{DateRow}
 use Rattle.wh_day.specs.declared.holiday.Holiday.{Holiday}
@@ -38,12 +38,12 @@ within policy day has =
 
 -- the row of a day is found under its number
 pub keyed : (policy : Policy) (day : ℕ) (found : DateRow) → day_at policy day ≡ Some found → row.calendar.key found ≡ day
-unfolding calendar_row
+unfolding date_row
 keyed policy day found is =
     elim (cases_Bool (has_day policy day)) [
       | inl has ↦
-          let some : Some (calendar_row policy.holidays day) ≡ Some found = rw has at is in
-          ap (λ (r : DateRow). r.date_key) (sym (some_is (calendar_row policy.holidays day) found some))
+          let some : Some (date_row policy.holidays day) ≡ Some found = rw has at is in
+          ap (λ (r : DateRow). r.date_key) (sym (some_is (date_row policy.holidays day) found some))
       | inr has_not ↦ let none : None ≡ Some found = rw has_not at is in absurd (cc)
     ]
 
@@ -65,9 +65,9 @@ numbered policy day has =
     record { above = omega (arith, p.month_low, p.day_low, number_is day); below = omega (arith, p.month_high, p.day_high, number_is day) }
 
 -- two rows of one day with one holiday are the same
-one_row : (older newer : List Holiday) (day : ℕ) → bytes_eq (calendar_row older day).holiday (calendar_row newer day).holiday ≡ true → calendar_row older day ≡ calendar_row newer day
-unfolding calendar_row
-one_row older newer day same = ap (λ text. record (calendar_row older day) { holiday = text }) ((bytes_eq-Decides (calendar_row older day).holiday (calendar_row newer day).holiday).0 same)
+one_row : (older newer : List Holiday) (day : ℕ) → bytes_eq (date_row older day).holiday (date_row newer day).holiday ≡ true → date_row older day ≡ date_row newer day
+unfolding date_row
+one_row older newer day same = ap (λ text. record (date_row older day) { holiday = text }) ((bytes_eq-Decides (date_row older day).holiday (date_row newer day).holiday).0 same)
 
 module _ (older newer : Policy) (fit : fits older newer ≡ true) where
   is_fit : IsFit older newer
@@ -80,17 +80,17 @@ module _ (older newer : Policy) (fit : fits older newer ≡ true) where
       let to : year_of day ≤ newer.years.last = let last = is_fit.to in let on = w.to in omega arith in
       rw (w.is, le-leb _ _ from, le-leb _ _ to) refl
 
-  both : (day : ℕ) → Needs day (Some (calendar_row older.holidays day)) (Some (calendar_row newer.holidays day)) (edit_between same_holiday day (Some (calendar_row older.holidays day)) (Some (calendar_row newer.holidays day)))
+  both : (day : ℕ) → Needs day (Some (date_row older.holidays day)) (Some (date_row newer.holidays day)) (edit_between same_holiday day (Some (date_row older.holidays day)) (Some (date_row newer.holidays day)))
   both day =
-      let old = calendar_row older.holidays day in
-      let new = calendar_row newer.holidays day in
+      let old = date_row older.holidays day in
+      let new = date_row newer.holidays day in
       elim (bytes_eq old.holiday new.holiday) as (λ b. bytes_eq old.holiday new.holiday ≡ b → Needs day (Some old) (Some new) (cond b None (Some (Put new)))) [
         | true ↦ λ same. inl (one_row older.holidays newer.holidays day same, refl)
         | false ↦ λ other. inr ((λ same. let test : bytes_eq old.holiday new.holiday ≡ true = (bytes_eq-Decides old.holiday new.holiday).1 (ap (λ (r : DateRow). r.holiday) same) in cc), refl)
       ] refl
 
   abbrev on : Policy → ℕ → Bool → Option DateRow
-  on policy day has = cond has (Some (calendar_row policy.holidays day)) None
+  on policy day has = cond has (Some (date_row policy.holidays day)) None
 
   by_days : (day : ℕ) (before after : Bool) → (before ≡ true → after ≡ true) → Needs day (on older day before) (on newer day after) (edit_between same_holiday day (on older day before) (on newer day after))
   by_days day true true kept = both day

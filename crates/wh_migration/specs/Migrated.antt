@@ -8,14 +8,14 @@ use Rattle.wh_history.specs.Keys.{at_place}
 use Rattle.wh_history.specs.Known.{number_in, all_numbered}
 use Rattle.wh_history.specs.Picked.{first_rows}
 use Rattle.wh_history.specs.Plan.{IsRowPlan}
-use Rattle.wh_history.specs.Shapes.{Shape, RenderedMember, shape_of, rows_in, rendered_in, shown}
+use Rattle.wh_history.specs.Shapes.{Shape, RenderedMember, shape_of, shape_rows, rendered_in, shown}
 use Rattle.wh_history.specs.Tables.{dimension_row}
 use Rattle.wh_history.specs.declared.dimension.DimensionShape.{DimensionShape}
 use Rattle.wh_history.specs.declared.facts.Fact.{Fact}
 use Rattle.wh_history.specs.declared.facts.FactKeys.{FactKeys}
 use Rattle.wh_history.specs.declared.facts.MemberKeys.{MemberKeys}
 use Rattle.wh_history.specs.declared.member.Member.{Member}
-use Rattle.wh_history.specs.declared.profiles.Numbered.{Numbered}
+use Rattle.wh_history.specs.declared.profiles.NumberedProfile.{NumberedProfile}
 use Rattle.wh_history.specs.declared.rows.DimRow.{DimRow}
 use Rattle.wh_model.specs.Defined.{fact_at}
 use Rattle.wh_plan.specs.Edits.{IsFactPlan}
@@ -59,7 +59,7 @@ pub record ArePlannedAnew (before after : List Accepted) (planned : MigratedTabl
 
 -- the rows of a dimension's table: those of each member, one member after the other, after that of sales without a card
 abbrev pub all_rows : Shape → List Member → List DimRow
-all_rows shape ms = first_rows shape.dim shape.kinds ++ flat_map (rows_in shape) ms
+all_rows shape ms = first_rows shape.dim shape.kinds ++ flat_map (shape_rows shape) ms
 
 -- members, and how their dimension shows them
 pub record Showing : Type 0 where
@@ -70,12 +70,12 @@ abbrev pub showing : ShownDimension → Showing
 showing d = record { shape = shape_of d.dimension; list = map shown d.members.items }
 
 -- they are the members that were read, by the types of their slots and what is known of profiles
-pub record AreShown (read : DimensionMembers) (known : List Numbered) (s : Showing) : Type 0 where
+pub record AreShown (read : DimensionMembers) (known : List NumberedProfile) (s : Showing) : Type 0 where
   pub shape_is : s.shape ≡ record { dim = read.dim; kinds = read.types.items; number = number_in known }
   pub list_is : s.list ≡ map (rendered_in s.shape) read.members.items
 
 -- so it is of all three
-pub record AreAllShown (read : WarehouseMembers) (known : List Numbered) (d : ShownDimensions) : Type 0 where
+pub record AreAllShown (read : WarehouseMembers) (known : List NumberedProfile) (d : ShownDimensions) : Type 0 where
   pub products : AreShown read.products known (showing d.products)
   pub stores : AreShown read.stores known (showing d.stores)
   pub customers : AreShown read.customers known (showing d.customers)

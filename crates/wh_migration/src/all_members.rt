@@ -101,7 +101,7 @@ fn all_members<S: Alter>(
 }
 
 /// The members of a dimension, to be shown under a policy that takes the place of the one in force.
-fn read_dimension<S: Alter>(
+fn dimension_members<S: Alter>(
     tables: &mut Tables<S>,
     alloc: Global,
     newer: &Policy,
@@ -126,9 +126,9 @@ pub(crate) fn read_dimensions<S: Alter>(
     ensures reads { ReadsOnly (state_of S.Store tables.old) (state_of S.Store tables.new) result }
     ensures read { Finds (state_of S.Store tables.old) (state_of S.Store tables.new) (λ limits commands. (c : Accepted) → IsAccepted limits (commands ++ c ∷ []) → c.content ≡ Governs newer.now → IfOk result (AreWarehouseMembers (commands ++ c ∷ []))) }
 {
-    let products = read_dimension(tables, alloc, newer, Dim::Product)?;
-    let stores = read_dimension(tables, alloc, newer, Dim::Store)?;
-    let customers = read_dimension(tables, alloc, newer, Dim::Customer)?;
+    let products = dimension_members(tables, alloc, newer, Dim::Product)?;
+    let stores = dimension_members(tables, alloc, newer, Dim::Store)?;
+    let customers = dimension_members(tables, alloc, newer, Dim::Customer)?;
     Ok(WarehouseMembers {
         products,
         stores,

@@ -13,7 +13,7 @@ use wh_history::{Edit, edit_between};
 use wh_policy::Policy;
 
 /// The row of a day in the calendar of a policy, if it lies in its years.
-fn row_on(alloc: Global, policy: &Policy, day: Day) -> Result<Option<DateRow>, AllocError>
+fn day_at(alloc: Global, policy: &Policy, day: Day) -> Result<Option<DateRow>, AllocError>
     ensures { IfOk result (λ row. row ≡ day_at policy.now day) }
 {
     if policy.years.contains(day) {
@@ -34,8 +34,8 @@ fn edit_on(
 {
     match Day::from_key(number as i64) {
         Some(day) => {
-            let old = row_on(alloc, older, day)?;
-            let new = row_on(alloc, newer, day)?;
+            let old = day_at(alloc, older, day)?;
+            let new = day_at(alloc, newer, day)?;
             let edit = edit_between(alloc, day, old.as_ref(), new.as_ref())?;
             Ok(edit)
         }

@@ -27,7 +27,7 @@ use sqlite::Alter;
 use std::alloc::{AllocError, Global};
 use wh_day::Day;
 use wh_history::{
-    DimRow, DimensionShape, Edit, Fact, FactKeys, Member, MemberKeys, Profiles, Rendered,
+    DimRow, DimensionShape, Edit, Fact, FactKeys, Member, MemberKeys, Profiles, RenderedRows,
     first_rows, plan_rows,
 };
 use wh_plan::FactEdit;
@@ -69,7 +69,7 @@ fn stored_table<S: Alter>(
 }
 
 /// The edits that lead from the stored rows of a dimension to those that show all its members anew.
-fn row_edits<S: Alter>(
+fn migrated_edits<S: Alter>(
     tables: &mut Tables<S>,
     alloc: Global,
     dimension: &DimensionShape,
@@ -85,7 +85,7 @@ fn row_edits<S: Alter>(
 }
 
 /// The edits of the rows of a dimension whose members were read.
-fn rows_of<S: Alter>(
+fn dimension_edits<S: Alter>(
     tables: &mut Tables<S>,
     alloc: Global,
     read: &DimensionMembers,
@@ -100,18 +100,18 @@ fn rows_of<S: Alter>(
         types: &read.types,
         profiles,
     };
-    row_edits(tables, alloc, &dimension, &read.members)
+    migrated_edits(tables, alloc, &dimension, &read.members)
 }
 
 /// A dimension with its members as it shows them, in order of their durable keys.
 #[derive(Drop)]
 struct ShownDimension<'a> {
     dimension: DimensionShape<'a>,
-    members: Vec<Rendered<'a>>,
+    members: Vec<RenderedRows<'a>>,
 }
 
 /// The member with a durable key among all of its dimension.
-fn member_at<'a, 'b>(members: &'b [Rendered<'a>], durable: u64) -> Option<&'b Rendered<'a>>
+fn at_place<'a, 'b>(members: &'b [RenderedRows<'a>], durable: u64) -> Option<&'b RenderedRows<'a>>
     ensures { option_copied result ≡ at_place durable members.now }
 {
     if durable == 0 {
@@ -125,7 +125,7 @@ impl ShownDimension<'_> {
     fn keys_given(&self, alloc: Global, durable: u64, day: Day) -> Result<MemberKeys, AllocError>
         ensures { IfOk result (λ keys. keys ≡ keys_given (showing self.now) durable day) }
     {
-        match member_at(&self.members, durable) {
+        match at_place(&self.members, durable) {
             Some(member) => self.dimension.keys_on(alloc, member, day),
             None => Ok(MemberKeys {
                 key: 0,
@@ -296,9 +296,9 @@ pub(crate) fn migrated_tables<S: Alter>(
     ensures reads { ReadsOnly (state_of S.Store tables.old) (state_of S.Store tables.new) result }
     ensures edits { Finds (state_of S.Store tables.old) (state_of S.Store tables.new) (λ limits commands. format ≡ format_of commands → (c : Accepted) → IsAccepted limits (commands ++ c ∷ []) → governs c.content ≡ true → AreWarehouseMembers (commands ++ c ∷ []) read.now → profiles.now ≡ all_numbered (profiles_of (commands ++ c ∷ [])) → IfOk result (ArePlannedAnew commands (commands ++ c ∷ []))) }
 {
-    let products = rows_of(tables, alloc, &read.products, profiles)?;
-    let stores = rows_of(tables, alloc, &read.stores, profiles)?;
-    let customers = rows_of(tables, alloc, &read.customers, profiles)?;
+    let products = dimension_edits(tables, alloc, &read.products, profiles)?;
+    let stores = dimension_edits(tables, alloc, &read.stores, profiles)?;
+    let customers = dimension_edits(tables, alloc, &read.customers, profiles)?;
     let facts = migrated_facts(tables, alloc, format, read, profiles)?;
     Ok(MigratedTables {
         products,

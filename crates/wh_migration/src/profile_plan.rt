@@ -90,7 +90,7 @@ fn customer_combinations<S: Alter>(
 }
 
 /// The rows of the profiles: those that no record says, and the combinations, which get their numbers.
-fn numbered_rows(
+fn profiles_shown(
     alloc: Global,
     types: &[AttributeType],
     known: &mut Profiles,
@@ -105,7 +105,7 @@ fn numbered_rows(
 }
 
 /// The edits that lead from some rows to others, where each row's number is its place.
-fn profile_edits(
+fn edits_of_profiles(
     alloc: Global,
     stored: &[ProfileRow],
     rows: &[ProfileRow],
@@ -134,8 +134,8 @@ pub(crate) fn renumbered_profiles<S: Alter>(
 {
     let combinations = customer_combinations(tables, alloc, format, types)?;
     let mut known = Profiles::new(alloc);
-    let rows = numbered_rows(alloc, types, &mut known, &combinations)?;
+    let rows = profiles_shown(alloc, types, &mut known, &combinations)?;
     let stored = tables.all::<tables::Profile>(alloc)?;
-    let edits = profile_edits(alloc, &stored, &rows)?;
+    let edits = edits_of_profiles(alloc, &stored, &rows)?;
     Ok(RenumberedProfiles { known, edits })
 }

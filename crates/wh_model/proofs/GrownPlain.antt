@@ -4,7 +4,7 @@ use Rattle.std.specs.Prelude.{◌≢◌, IsTrue, option_map, unwrap_or}
 use Rattle.std.specs.List.{list_any}
 use Rattle.std.proofs.lemmas.List.Elements.{All-weaker, All-map}
 use Rattle.std.proofs.lemmas.List.Folds.{list_any_none}
-use Rattle.wh_policy.specs.Policy.{attributes_of, types_of}
+use Rattle.wh_policy.specs.Policy.{policy_attributes, policy_types}
 use Rattle.wh_policy.specs.Types.{is_profile, is_outrigger}
 use Rattle.wh_policy.specs.Written.{IsSound}
 use Rattle.wh_policy.specs.declared.policy.Policy.{Policy}
@@ -26,13 +26,13 @@ outside MiniDimensionOutrigger h = absurd (h refl)
 outside NewRowAndOverwrite h = refl
 outside DualKeys h = refl
 
-pub none_of : (dim : Dim) (policy : Policy) → IsSound policy → dim ≢ Customer → list_any is_outrigger (types_of policy dim) ≡ false
+pub none_of : (dim : Dim) (policy : Policy) → IsSound policy → dim ≢ Customer → list_any is_outrigger (policy_types policy dim) ≡ false
 none_of dim policy sound other =
-    list_any_none is_outrigger (types_of policy dim)
-    (All-map (λ (kind : AttributeType). is_outrigger kind ≡ false) (λ (a : Attribute). a.kind) (attributes_of policy dim)
-    (All-weaker (λ (a : Attribute). IsTrue (is_profile a.kind) → ⊥) (λ (a : Attribute). is_outrigger a.kind ≡ false) (λ a h. outside a.kind h) (attributes_of policy dim) (sound.outside dim other)))
+    list_any_none is_outrigger (policy_types policy dim)
+    (All-map (λ (kind : AttributeType). is_outrigger kind ≡ false) (λ (a : Attribute). a.kind) (policy_attributes policy dim)
+    (All-weaker (λ (a : Attribute). IsTrue (is_profile a.kind) → ⊥) (λ (a : Attribute). is_outrigger a.kind ≡ false) (λ a h. outside a.kind h) (policy_attributes policy dim) (sound.outside dim other)))
 
-none_under : (dim : Dim) → dim ≢ Customer → (o : Option Policy) → ((policy : Policy) → o ≡ Some policy → IsSound policy) → list_any is_outrigger (unwrap_or (option_map (λ (policy : Policy). types_of policy dim) o) []) ≡ false
+none_under : (dim : Dim) → dim ≢ Customer → (o : Option Policy) → ((policy : Policy) → o ≡ Some policy → IsSound policy) → list_any is_outrigger (unwrap_or (option_map (λ (policy : Policy). policy_types policy dim) o) []) ≡ false
 none_under dim other None sound = refl
 none_under dim other (Some policy) sound = none_of dim policy (sound policy refl) other
 

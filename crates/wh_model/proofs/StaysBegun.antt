@@ -3,7 +3,7 @@ use Rattle.std.proofs.Common.{◌≡◌, ◌≤◌, ◌&&◌, leb, true, [], ref
 use Rattle.std.specs.List.{IsDistinct}
 use Rattle.std.proofs.lemmas.Bool.{and_parts, leb-true}
 use Rattle.std.proofs.lemmas.List.{length-map}
-use Rattle.wh_policy.specs.Policy.{attributes_of}
+use Rattle.wh_policy.specs.Policy.{policy_attributes}
 use Rattle.wh_policy.specs.declared.attribute.Attribute.{Attribute}
 use Rattle.wh_policy.proofs.FileLaws.{policies_are_sound}
 use Rattle.wh_history.specs.Tables.{Limits}
@@ -31,7 +31,7 @@ accepted_lists_begin limits policy bytes limited written =
       begun = record { policy = policy; bytes = bytes; rest = []; making = refl; written = written };
       policies = ((refl, written), tt);
       governed = refl;
-      six = λ dim. omega (arith, length-map (attributes_of policy dim) (λ (a : Attribute). a.kind), (sound.attributes dim).few);
+      six = λ dim. omega (arith, length-map (policy_attributes policy dim) (λ (a : Attribute). a.kind), (sound.attributes dim).few);
       ids = (refl, tt);
       kinds = (refl, tt);
       distinct = (tt, tt);

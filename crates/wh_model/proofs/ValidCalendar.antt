@@ -6,14 +6,14 @@ use Rattle.std.specs.Str.{is_utf8, IsAscii}
 use Rattle.std.proofs.lemmas.Bool.{and_parts, ltb-true, cases_Bool}
 use Rattle.std.proofs.lemmas.Option.{cond_some}
 use Rattle.std.proofs.lemmas.Str.{is_utf8-from_IsUtf8, IsUtf8-from_ascii}
-use Rattle.wh_day.specs.Calendar.{calendar_row, weekday_of, weekday_names, name_of_weekday}
+use Rattle.wh_day.specs.Calendar.{date_row, weekday_of, weekday_names, name_of_weekday}
 use Rattle.wh_day.specs.Day.{is_day, day_text, year_of}
 use Rattle.wh_day.specs.Holidays.{is_on, holiday_text}
 use Rattle.wh_day.specs.Value.{none_text, is_printed, is_plain, read_value}
 use Rattle.wh_day.specs.declared.calendar.DateRow.{DateRow}
 use Rattle.wh_day.specs.declared.holiday.Holiday.{Holiday}
 use Rattle.wh_day.proofs.Days.{parts}
-use Rattle.wh_policy.specs.Policy.{policy_at}
+use Rattle.wh_policy.specs.Policy.{read_policy}
 use Rattle.wh_policy.specs.declared.policy.Policy.{Policy}
 use Rattle.wh_policy.specs.declared.policy.Years.{Years}
 use Rattle.wh_policy.proofs.FileLaws.{ok_is}
@@ -96,17 +96,17 @@ holiday_utf8 (h ∷ holidays) day names =
       | false ↦ holiday_utf8 holidays day names.1
     ]
 
-date_valid : (holidays : List Holiday) (day : ℕ) → is_day day ≡ true → AreNamed holidays → is_date (calendar_row holidays day) ≡ true
-unfolding calendar_row
+date_valid : (holidays : List Holiday) (day : ℕ) → is_day day ≡ true → AreNamed holidays → is_date (date_row holidays day) ≡ true
+unfolding date_row
 date_valid holidays day is names = rw (is, day_utf8 day is, weekday_utf8 (weekday_of day), holiday_utf8 holidays day names) refl
 
 pub day_valid : (policy : Policy) (day : ℕ) (found : DateRow) → AreNamed policy.holidays → day_at policy day ≡ Some found → is_date found ≡ true
 day_valid policy day found names is =
     elim (cases_Bool (is_day day && leb policy.years.first (year_of day) && leb (year_of day) policy.years.last)) [
       | inl all ↦
-          let some : Some (calendar_row policy.holidays day) ≡ Some found = rw all at is in
+          let some : Some (date_row policy.holidays day) ≡ Some found = rw all at is in
           let a_day = (and_parts (is_day day) (leb policy.years.first (year_of day)) (and_parts (is_day day && leb policy.years.first (year_of day)) (leb (year_of day) policy.years.last) all).0).0 in
-          subst (λ (r : DateRow). is_date r ≡ true) (some_is (calendar_row policy.holidays day) found some) (date_valid policy.holidays day a_day names)
+          subst (λ (r : DateRow). is_date r ≡ true) (some_is (date_row policy.holidays day) found some) (date_valid policy.holidays day a_day names)
       | inr not_all ↦ let none : None ≡ Some found = rw not_all at is in absurd (cc)
     ]
 
@@ -114,10 +114,10 @@ day_valid policy day found names is =
 
 -- it is one that was read
 abbrev WasRead : Policy → Type 0
-WasRead policy = (bytes : List ℕ) × (policy_at bytes ≡ Ok policy)
+WasRead policy = (bytes : List ℕ) × (read_policy bytes ≡ Ok policy)
 
 read_by : (before : Option Policy) (c : Accepted) (content : Content) → GivesPolicy c.kind c.bytes content → ((policy : Policy) → before ≡ Some policy → WasRead policy) → (policy : Policy) → governed before content ≡ Some policy → WasRead policy
-read_by before c (Governs given) gives earlier policy is = let same : given ≡ policy = some_is given policy is in (c.bytes, subst (λ p. policy_at c.bytes ≡ Ok p) same gives.1)
+read_by before c (Governs given) gives earlier policy is = let same : given ≡ policy = some_is given policy is in (c.bytes, subst (λ p. read_policy c.bytes ≡ Ok p) same gives.1)
 read_by before c (Describes dim records) gives earlier policy is = earlier policy is
 read_by before c (Sells sales) gives earlier policy is = earlier policy is
 read_by before c Upgrades gives earlier policy is = earlier policy is
@@ -130,7 +130,7 @@ read_after before (c ∷ commands) all earlier = read_after (governed before c.c
 in_force : (limits : Limits) (commands : List Accepted) → IsAccepted limits commands → (policy : Policy) → policy_after None commands ≡ Some policy → WasRead policy
 in_force limits commands ok = read_after None commands ok.policies (λ policy none. absurd cc)
 
-pub names_of_read : (bytes : List ℕ) (policy : Policy) → policy_at bytes ≡ Ok policy → AreNamed policy.holidays
+pub names_of_read : (bytes : List ℕ) (policy : Policy) → read_policy bytes ≡ Ok policy → AreNamed policy.holidays
 names_of_read bytes policy read =
     let (members, document, is) = ok_is bytes policy read in
     names_are policy.years _ policy.holidays is.holidays

@@ -3,7 +3,7 @@ use Rattle.std.specs.Prelude.{◌≡◌, ℕ, pos, ◌&&◌, if◌then◌else◌
 use Rattle.std.specs.Option.{option_and_then}
 use Rattle.std.specs.FinMap.{get}
 use Rattle.wh_day.specs.Day.{is_day, year_of}
-use Rattle.wh_day.specs.Calendar.{calendar_row}
+use Rattle.wh_day.specs.Calendar.{date_row}
 use Rattle.wh_day.specs.declared.calendar.DateRow.{DateRow}
 use Rattle.wh_policy.specs.declared.attribute.Dim.TheVariants.{Product, Store, Customer}
 use Rattle.wh_policy.specs.declared.policy.Policy.{Policy}
@@ -43,7 +43,7 @@ profile_at commands number = option_map (λ values. record { number = number; va
 
 -- a day of the policy's years
 abbrev pub day_at : Policy → ℕ → Option DateRow
-day_at policy day = if is_day day && nat_le policy.years.first (year_of day) && nat_le (year_of day) policy.years.last then Some (calendar_row policy.holidays day) else None
+day_at policy day = if is_day day && nat_le policy.years.first (year_of day) && nat_le (year_of day) policy.years.last then Some (date_row policy.holidays day) else None
 
 abbrev pub calendar_at : List Accepted → ℕ → Option DateRow
 calendar_at commands day = option_and_then (λ policy. day_at policy day) (policy_after None commands)

@@ -1,7 +1,7 @@
 -- What holds of the tables that accepted commands define.
 use Rattle.std.specs.Prelude.{◌≡◌, ◌≢◌, ◌↔◌, ◌<◌, ℕ, ◌==◌, ◌&&◌, true, false, if◌then◌else◌, List, [], ◌∷◌, ◌++◌, Option, Some, None, Ok, option_map, unwrap_or, find, bytes_eq}
 use Rattle.std.specs.List.{list_any}
-use Rattle.wh_policy.specs.Policy.{policy_at}
+use Rattle.wh_policy.specs.Policy.{read_policy}
 use Rattle.wh_policy.specs.Types.{is_outrigger}
 use Rattle.wh_policy.specs.Written.{IsSound}
 use Rattle.wh_policy.specs.declared.policy.Policy.{Policy}
@@ -49,7 +49,7 @@ SoundPoliciesShowNone = (commands : List Accepted) → ((policy : Policy) → po
 
 -- A making under a policy that was read begins such a list.
 abbrev pub AcceptedListsBegin : Type 0
-AcceptedListsBegin = (limits : Limits) (policy : Policy) (bytes : List ℕ) → are_limits limits ≡ true → policy_at bytes ≡ Ok policy → IsAccepted limits (making_of policy bytes ∷ [])
+AcceptedListsBegin = (limits : Limits) (policy : Policy) (bytes : List ℕ) → are_limits limits ≡ true → read_policy bytes ≡ Ok policy → IsAccepted limits (making_of policy bytes ∷ [])
 
 -- In the tables of accepted commands no two commands have one id, and no two members of a dimension one natural key: no row that is put
 -- meets a second key that is taken.

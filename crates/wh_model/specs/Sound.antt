@@ -9,7 +9,7 @@ use Rattle.wh_policy.specs.declared.policy.Policy.{Policy}
 use Rattle.wh_policy.specs.declared.record.DimensionRecord.{DimensionRecord}
 use Rattle.wh_policy.specs.declared.record.SaleRecord.{SaleRecord}
 use Rattle.wh_policy.specs.declared.record.VoidRecord.{VoidRecord}
-use Rattle.wh_policy.specs.Policy.{policy_at, types_of}
+use Rattle.wh_policy.specs.Policy.{read_policy, policy_types}
 use Rattle.wh_policy.specs.Written.{IsSound}
 use Rattle.wh_policy.specs.declared.attribute.AttributeType.{AttributeType}
 use Rattle.wh_history.specs.Accepted.{Accepted, Content, Governs, Describes, Sells, Upgrades, Withdraws, policy_after, format_of, types_in, described, member_of_sale, sold, withdrawn}
@@ -23,7 +23,7 @@ pub record AreTypes (commands : List Accepted) (dim : Dim) (kinds : List Attribu
   pub policy : Policy
   pub governed : policy_after None commands ≡ Some policy
   pub sound : IsSound policy
-  pub are : kinds ≡ types_of policy dim
+  pub are : kinds ≡ policy_types policy dim
 
 -- a value that a record gives: a text that a slot can hold, and not the empty one
 abbrev pub IsGivenValue : List ℕ → Type 0
@@ -73,11 +73,11 @@ pub record IsBegun (commands : List Accepted) : Type 0 where
   pub bytes : List ℕ
   pub rest : List Accepted
   pub making : commands ≡ making_of policy bytes ∷ rest
-  pub written : policy_at bytes ≡ Ok policy
+  pub written : read_policy bytes ≡ Ok policy
 
 -- a making or a migration gives the policy of its bytes, and no other command gives one
 abbrev pub GivesPolicy : (kind bytes : List ℕ) → Content → Type 0
-GivesPolicy kind bytes (Governs policy) = (gives_policy kind ≡ true) × (policy_at bytes ≡ Ok policy)
+GivesPolicy kind bytes (Governs policy) = (gives_policy kind ≡ true) × (read_policy bytes ≡ Ok policy)
 GivesPolicy kind bytes (Describes dim records) = gives_policy kind ≡ false
 GivesPolicy kind bytes (Sells sales) = gives_policy kind ≡ false
 GivesPolicy kind bytes Upgrades = gives_policy kind ≡ false

@@ -14,7 +14,7 @@ use Rattle.wh_history.specs.Profiles.{profile_number}
 use Rattle.wh_history.specs.Slots.{picks, six, are_same}
 use Rattle.wh_history.specs.declared.member.Change.{Change}
 use Rattle.wh_history.specs.declared.member.Member.{Member}
-use Rattle.wh_history.specs.declared.profiles.Numbered.{Numbered}
+use Rattle.wh_history.specs.declared.profiles.NumberedProfile.{NumberedProfile}
 use Rattle.wh_history.proofs.Basics.{or_true, texts_decide}
 use Rattle.wh_history.proofs.Joins.{all_weaker}
 use Rattle.wh_history.proofs.Knowing.{number_all, is_there, there_is}
@@ -96,7 +96,7 @@ number_learned : (number : List (List ℕ) → Option ℕ) (D : List (List (List
 number_learned number [] t = refl
 number_learned number (x ∷ D) t =
     let rest = number_learned number D t in
-    let more : List Numbered = learned number D in
+    let more : List NumberedProfile = learned number D in
     elim (are_same x t) as (λ b. (are_same x t ≡ b) → number_in (cons_option (numbered_as number x) more) t ≡ cond (b || any_of t D) (number t) None) [
       | true ↦ λ e.
           let same : x ≡ t = (texts_decide x t).0 e in
@@ -104,12 +104,12 @@ number_learned number (x ∷ D) t =
             | None ↦ λ is.
                 let none : number t ≡ None = ap number (sym same) ∙ is in
                 rest ∙ ap (λ o. cond (any_of t D) o None) none ∙ none_either (any_of t D) ∙ sym none
-            | Some n ↦ λ is. ap (λ b. option_map (λ (k : Numbered). k.number) (cond b (Some (record { texts = x; number = n })) (find (λ k. are_same k.texts t) more))) e ∙ sym is ∙ ap number same
+            | Some n ↦ λ is. ap (λ b. option_map (λ (k : NumberedProfile). k.number) (cond b (Some (record { texts = x; number = n })) (find (λ k. are_same k.texts t) more))) e ∙ sym is ∙ ap number same
           ] refl
       | false ↦ λ e.
           elim (number x) as (λ o. number_in (cons_option (option_map (λ n. record { texts = x; number = n }) o) more) t ≡ cond (any_of t D) (number t) None) [
             | None ↦ rest
-            | Some n ↦ ap (λ b. option_map (λ (k : Numbered). k.number) (cond b (Some (record { texts = x; number = n })) (find (λ k. are_same k.texts t) more))) e ∙ rest
+            | Some n ↦ ap (λ b. option_map (λ (k : NumberedProfile). k.number) (cond b (Some (record { texts = x; number = n })) (find (λ k. are_same k.texts t) more))) e ∙ rest
           ]
     ] refl
 
@@ -118,31 +118,31 @@ pub number_looked_up : (number : List (List ℕ) → Option ℕ) (ts : List (Lis
 number_looked_up number ts t among = number_learned number (with_combinations [] ts) t ∙ ap (λ b. cond b (number t) None) (any_with ts t ∙ among)
 
 -- one look-up more
-pub learned_more : (number : List (List ℕ) → Option ℕ) (known new : List Numbered) (x : List (List ℕ)) (D : List (List (List ℕ))) (all : List Numbered) → new ≡ known ++ option_to_list (numbered_as number x) → known ++ learned number (x ∷ D) ≡ all → new ++ learned number D ≡ all
+pub learned_more : (number : List (List ℕ) → Option ℕ) (known new : List NumberedProfile) (x : List (List ℕ)) (D : List (List (List ℕ))) (all : List NumberedProfile) → new ≡ known ++ option_to_list (numbered_as number x) → known ++ learned number (x ∷ D) ≡ all → new ++ learned number D ≡ all
 learned_more number known new x D all made whole =
     ap (λ ks. ks ++ learned number D) made ∙ append_assoc known (option_to_list (numbered_as number x)) (learned number D) ∙ ap (λ ks. known ++ ks) (listed (numbered_as number x) (learned number D)) ∙ whole
   where
-    listed : (o : Option Numbered) (ks : List Numbered) → option_to_list o ++ ks ≡ cons_option o ks
+    listed : (o : Option NumberedProfile) (ks : List NumberedProfile) → option_to_list o ++ ks ≡ cons_option o ks
     listed None ks = refl
     listed (Some k) ks = refl
 
 -- ---- new combinations
 
-or_mapped : (a b : Option Numbered) → option_map (λ (k : Numbered). k.number) (option_or a b) ≡ option_or (option_map (λ (k : Numbered). k.number) a) (option_map (λ (k : Numbered). k.number) b)
+or_mapped : (a b : Option NumberedProfile) → option_map (λ (k : NumberedProfile). k.number) (option_or a b) ≡ option_or (option_map (λ (k : NumberedProfile). k.number) a) (option_map (λ (k : NumberedProfile). k.number) b)
 or_mapped None b = refl
 or_mapped (Some k) b = refl
 
-number_append : (a b : List Numbered) (t : List (List ℕ)) → number_in (a ++ b) t ≡ option_or (number_in a t) (number_in b t)
-number_append a b t = ap (option_map (λ (k : Numbered). k.number)) (find-append (λ (k : Numbered). are_same k.texts t) a b) ∙ or_mapped (find (λ (k : Numbered). are_same k.texts t) a) (find (λ (k : Numbered). are_same k.texts t) b)
+number_append : (a b : List NumberedProfile) (t : List (List ℕ)) → number_in (a ++ b) t ≡ option_or (number_in a t) (number_in b t)
+number_append a b t = ap (option_map (λ (k : NumberedProfile). k.number)) (find-append (λ (k : NumberedProfile). are_same k.texts t) a b) ∙ or_mapped (find (λ (k : NumberedProfile). are_same k.texts t) a) (find (λ (k : NumberedProfile). are_same k.texts t) b)
 
 numbered_append : (next : ℕ) (xs ys : List (List (List ℕ))) → numbered_from next (xs ++ ys) ≡ numbered_from next xs ++ numbered_from (length xs + next) ys
 numbered_append next [] ys = let same : next ≡ 0 + next = omega arith in ap (λ n. numbered_from n ys) same
 numbered_append next (x ∷ xs) ys =
     let same : length xs + suc next ≡ suc (length xs) + next = omega arith in
-    ap (λ (ks : List Numbered). record { texts = x; number = next } ∷ ks) (numbered_append (suc next) xs ys ∙ ap (λ n. numbered_from (suc next) xs ++ numbered_from n ys) same)
+    ap (λ (ks : List NumberedProfile). record { texts = x; number = next } ∷ ks) (numbered_append (suc next) xs ys ∙ ap (λ n. numbered_from (suc next) xs ++ numbered_from n ys) same)
 
 -- with the numbers of new ones what is known is known among all
-pub number_with : (base new : List (List (List ℕ))) (known : List Numbered) (next : ℕ) (t : List (List ℕ)) → next ≡ length base + 2 → number_in known t ≡ profile_number base t → number_in (known ++ numbered_from next new) t ≡ profile_number (base ++ new) t
+pub number_with : (base new : List (List (List ℕ))) (known : List NumberedProfile) (next : ℕ) (t : List (List ℕ)) → next ≡ length base + 2 → number_in known t ≡ profile_number base t → number_in (known ++ numbered_from next new) t ≡ profile_number (base ++ new) t
 number_with base new known next t at is =
     number_append known (numbered_from next new) t
     ∙ ap (λ o. option_or o (number_in (numbered_from next new) t)) (is ∙ sym (number_all base t))

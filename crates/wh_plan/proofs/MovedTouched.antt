@@ -4,7 +4,7 @@ use Rattle.std.specs.Prelude.{find, filter_map, flat_map, option_map, unwrap_or,
 use Rattle.std.specs.FinMap.{FinMap}
 use Rattle.std.specs.List.{cons_option, AllByRecursion}
 use Rattle.wh_day.specs.Day.{first_day}
-use Rattle.wh_policy.specs.Policy.{types_of}
+use Rattle.wh_policy.specs.Policy.{policy_types}
 use Rattle.wh_policy.specs.Written.{IsSound}
 use Rattle.wh_policy.specs.declared.attribute.AttributeType.{AttributeType}
 use Rattle.wh_policy.specs.declared.attribute.Dim.{Dim}
@@ -140,7 +140,7 @@ pub facts_moved : (limits : Limits) (commands : List Accepted) (c : Accepted) (d
 facts_moved limits commands c dim rs kinds t are ok is typed number enough pairs paired format same facts made =
     let after = commands ++ c ∷ [] in
     let policy = typed.policy in
-    let types : kinds ≡ types_in dim after = typed.are ∙ sym (ap (λ (o : Option Policy). unwrap_or (option_map (λ (p : Policy). types_of p dim) o) []) (policy_last None commands c (ap governs is) ∙ typed.governed)) in
+    let types : kinds ≡ types_in dim after = typed.are ∙ sym (ap (λ (o : Option Policy). unwrap_or (option_map (λ (p : Policy). policy_types p dim) o) []) (policy_last None commands c (ap governs is) ∙ typed.governed)) in
     let numbers = profile_number (profiles_of after) in
     let ns = naturals_told rs in
     let by : List AttributeType → (List (List ℕ) → Option ℕ) → Shape = λ ks numbers. record { dim = dim; kinds = ks; number = numbers } in

@@ -3,7 +3,7 @@ use Rattle.std.proofs.Common.{◌≡◌, ℕ, suc, ◌+◌, ◌-◌, ◌≤◌, 
 use Rattle.std.specs.Prelude.{◌≢◌, filter, filter_map, option_map, unwrap_or}
 use Rattle.std.specs.List.{list_any, range_with_len, AllByRecursion}
 use Rattle.std.proofs.lemmas.List.{length-map}
-use Rattle.wh_policy.specs.Policy.{attributes_of, types_of}
+use Rattle.wh_policy.specs.Policy.{policy_attributes, policy_types}
 use Rattle.wh_policy.specs.Types.{is_profile, is_outrigger}
 use Rattle.wh_policy.specs.Written.{IsSound}
 use Rattle.wh_policy.specs.declared.attribute.Attribute.{Attribute}
@@ -20,7 +20,7 @@ use Rattle.wh_history.specs.Profiles.{combinations_of, profile_number}
 use Rattle.wh_history.specs.Slots.{picks, are_same}
 use Rattle.wh_history.specs.Tables.{Limits}
 use Rattle.wh_history.specs.declared.member.Member.{Member}
-use Rattle.wh_history.specs.declared.profiles.Numbered.{Numbered}
+use Rattle.wh_history.specs.declared.profiles.NumberedProfile.{NumberedProfile}
 use Rattle.wh_history.proofs.Basics.{texts_decide}
 use Rattle.wh_history.proofs.Once.{among_distinct}
 use Rattle.wh_history.proofs.Owners.{all_distinct}
@@ -76,25 +76,25 @@ others_bring_none commands c dim records is other = none_brought commands c dim 
 
 -- ---- what is known of members
 
-pub types_are : (dim : Dim) (commands : List Accepted) (policy : Policy) → policy_after None commands ≡ Some policy → types_in dim commands ≡ types_of policy dim
-types_are dim commands policy governed = ap (λ (o : Option Policy). unwrap_or (option_map (λ (p : Policy). types_of p dim) o) []) governed
+pub types_are : (dim : Dim) (commands : List Accepted) (policy : Policy) → policy_after None commands ≡ Some policy → types_in dim commands ≡ policy_types policy dim
+types_are dim commands policy governed = ap (λ (o : Option Policy). unwrap_or (option_map (λ (p : Policy). policy_types p dim) o) []) governed
 
-pub types_few : (dim : Dim) (policy : Policy) → IsSound policy → length (types_of policy dim) ≤ 6
-types_few dim policy sound = let few = (sound.attributes dim).few in let same = length-map (attributes_of policy dim) (λ (a : Attribute). a.kind) in omega arith
+pub types_few : (dim : Dim) (policy : Policy) → IsSound policy → length (policy_types policy dim) ≤ 6
+types_few dim policy sound = let few = (sound.attributes dim).few in let same = length-map (policy_attributes policy dim) (λ (a : Attribute). a.kind) in omega arith
 
 -- of products and stores enough, whatever it is
-pub others_known : (dim : Dim) (policy : Policy) → IsSound policy → dim ≢ Customer → (number : List (List ℕ) → Option ℕ) (combinations : List (List (List ℕ))) (ms : List Member) → AllByRecursion (KnowsEnough dim (types_of policy dim) number combinations) ms
+pub others_known : (dim : Dim) (policy : Policy) → IsSound policy → dim ≢ Customer → (number : List (List ℕ) → Option ℕ) (combinations : List (List (List ℕ))) (ms : List Member) → AllByRecursion (KnowsEnough dim (policy_types policy dim) number combinations) ms
 others_known dim policy sound other number combinations [] = tt
 others_known dim policy sound other number combinations (m ∷ ms) = (by_dimension dim other (none_of dim policy sound other), others_known dim policy sound other number combinations ms)
   where
-    by_dimension : (d : Dim) → d ≢ Customer → list_any is_outrigger (types_of policy dim) ≡ false → KnowsEnough d (types_of policy dim) number combinations m
+    by_dimension : (d : Dim) → d ≢ Customer → list_any is_outrigger (policy_types policy dim) ≡ false → KnowsEnough d (policy_types policy dim) number combinations m
     by_dimension Product apart none = none
     by_dimension Store apart none = none
     by_dimension Customer apart none = absurd (apart refl)
 
 module _ (limits : Limits) (commands : List Accepted) (t : Tables) (are : AreOf limits commands t) (policy : Policy) (governed : policy_after None commands ≡ Some policy) (sound : IsSound policy) where
   abbrev kinds : List AttributeType
-  kinds = types_of policy Customer
+  kinds = policy_types policy Customer
 
   abbrev base : List (List (List ℕ))
   base = profiles_of commands
@@ -106,20 +106,20 @@ module _ (limits : Limits) (commands : List Accepted) (t : Tables) (are : AreOf 
   looked_up ts values among = number_looked_up (number_kept t.profile) ts (picks is_profile kinds values) among ∙ kept_is values
 
   -- of customers that are stored
-  pub customers_known : (ms : List Member) (known : List Numbered) → known ≡ learned (number_kept t.profile) (with_combinations [] (said_by (types_of policy Customer) ms)) → AllByRecursion (KnowsEnough Customer (types_of policy Customer) (number_in known) (profiles_of commands)) ms
+  pub customers_known : (ms : List Member) (known : List NumberedProfile) → known ≡ learned (number_kept t.profile) (with_combinations [] (said_by (policy_types policy Customer) ms)) → AllByRecursion (KnowsEnough Customer (policy_types policy Customer) (number_in known) (profiles_of commands)) ms
   customers_known ms known is =
-      subst (λ (ks : List Numbered). AllByRecursion (KnowsEnough Customer kinds (number_in ks) base) ms) (sym is)
+      subst (λ (ks : List NumberedProfile). AllByRecursion (KnowsEnough Customer kinds (number_in ks) base) ms) (sym is)
       (each_change kinds (λ t'. number_in (learned (number_kept t.profile) (with_combinations [] (said_by kinds ms))) t' ≡ profile_number base t') [] ms (looked_up (said_by kinds ms)))
 
   module _ (c : Accepted) (records : List DimensionRecord) (is : c.content ≡ Describes Customer records) (ms : List Member) where
     abbrev texts_told : List (List (List ℕ))
-    texts_told = told_of (types_of policy Customer) records
+    texts_told = told_of (policy_types policy Customer) records
 
     abbrev texts_said : List (List (List ℕ))
-    texts_said = said_by (types_of policy Customer) ms
+    texts_said = said_by (policy_types policy Customer) ms
 
-    abbrev looked : List Numbered
-    looked = learned (number_kept t.profile) (with_combinations (with_combinations [] (told_of (types_of policy Customer) records)) (said_by (types_of policy Customer) ms))
+    abbrev looked : List NumberedProfile
+    looked = learned (number_kept t.profile) (with_combinations (with_combinations [] (told_of (policy_types policy Customer) records)) (said_by (policy_types policy Customer) ms))
 
     abbrev new : List (List (List ℕ))
     new = unknown looked (with_combinations [] texts_told)
@@ -142,7 +142,7 @@ module _ (limits : Limits) (commands : List Accepted) (t : Tables) (are : AreOf 
         )
 
     -- the new ones are those of which nothing was found
-    pub grown : profiles_of commands ++ unknown looked (with_combinations [] (told_of (types_of policy Customer) records)) ≡ profiles_of (commands ++ c ∷ [])
+    pub grown : profiles_of commands ++ unknown looked (with_combinations [] (told_of (policy_types policy Customer) records)) ≡ profiles_of (commands ++ c ∷ [])
     grown =
         let types = types_are Customer commands policy governed in
         let brought = ap (described_by Customer) is in
@@ -159,15 +159,15 @@ module _ (limits : Limits) (commands : List Accepted) (t : Tables) (are : AreOf 
     next = suc (suc (length (profiles_of commands)))
 
     -- with their numbers enough is known
-    pub touched_known : (known : List Numbered) → known ≡ looked ++ numbered_from next (unknown looked (with_combinations [] (told_of (types_of policy Customer) records))) → AllByRecursion (KnowsEnough Customer (types_of policy Customer) (number_in known) (profiles_of (commands ++ c ∷ []))) ms
+    pub touched_known : (known : List NumberedProfile) → known ≡ looked ++ numbered_from next (unknown looked (with_combinations [] (told_of (policy_types policy Customer) records))) → AllByRecursion (KnowsEnough Customer (policy_types policy Customer) (number_in known) (profiles_of (commands ++ c ∷ []))) ms
     touched_known known made =
         let at : next ≡ length base + 2 = omega arith in
         let whole = looked ++ numbered_from next new in
         let each = each_change kinds (λ x. number_in whole x ≡ profile_number (base ++ new) x) texts_told ms (λ values among. number_with base new looked next (picks is_profile kinds values) at (found_number values among)) in
-        subst (λ (ks : List Numbered). AllByRecursion (KnowsEnough Customer kinds (number_in ks) (profiles_of (commands ++ c ∷ []))) ms) (sym made)
+        subst (λ (ks : List NumberedProfile). AllByRecursion (KnowsEnough Customer kinds (number_in ks) (profiles_of (commands ++ c ∷ []))) ms) (sym made)
         (subst (λ cs. AllByRecursion (KnowsEnough Customer kinds (number_in whole) cs) ms) grown each)
 
-    pub touched_fresh : map row_of_profile (numbered_from next (unknown looked (with_combinations [] (told_of (types_of policy Customer) records)))) ≡ NewProfiles commands (commands ++ c ∷ [])
+    pub touched_fresh : map row_of_profile (numbered_from next (unknown looked (with_combinations [] (told_of (policy_types policy Customer) records)))) ≡ NewProfiles commands (commands ++ c ∷ [])
     touched_fresh = rows_fresh commands (commands ++ c ∷ []) new next refl grown
 
 -- how many there were

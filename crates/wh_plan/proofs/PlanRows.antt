@@ -6,7 +6,7 @@ use Rattle.std.specs.Option.{option_or}
 use Rattle.std.proofs.lemmas.Bool.{lt-ltb}
 use Rattle.std.proofs.lemmas.List.{append_assoc}
 use Rattle.std.proofs.lemmas.List.Folds.{find-append}
-use Rattle.wh_policy.specs.Policy.{types_of}
+use Rattle.wh_policy.specs.Policy.{policy_types}
 use Rattle.wh_policy.specs.Types.{is_outrigger}
 use Rattle.wh_policy.specs.declared.attribute.AttributeType.{AttributeType}
 use Rattle.wh_policy.specs.declared.attribute.Dim.{Dim}
@@ -95,10 +95,10 @@ module _ (commands : List Accepted) (c : Accepted) (dim : Dim) (records : List D
 
   -- products and stores show none
   shows_none : dim ≢ Customer → ShowsNoProfile commands dim
-  shows_none other = ap (λ (o : Option Policy). list_any is_outrigger (unwrap_or (option_map (λ (p : Policy). types_of p dim) o) [])) typed.governed ∙ none_of dim typed.policy typed.sound other
+  shows_none other = ap (λ (o : Option Policy). list_any is_outrigger (unwrap_or (option_map (λ (p : Policy). policy_types p dim) o) [])) typed.governed ∙ none_of dim typed.policy typed.sound other
 
   types_after : types_in dim after ≡ kinds
-  types_after = ap (λ (o : Option Policy). unwrap_or (option_map (λ (p : Policy). types_of p dim) o) []) (policy_last None commands c batch ∙ typed.governed) ∙ sym typed.are
+  types_after = ap (λ (o : Option Policy). unwrap_or (option_map (λ (p : Policy). policy_types p dim) o) []) (policy_last None commands c batch ∙ typed.governed) ∙ sym typed.are
 
   pub rows_planned : (number : List (List ℕ) → Option ℕ) (touched : List Member) (stored new : List DimRow) (edits : List (Edit DimRow ℕ)) → RecordsHaveDays commands → RecordsHaveDays after → touched ≡ (touched_by dim commands after records).list
       → ((key : ℕ) → row_of key stored ≡ row_of key (Left dim commands (naturals_told records)))

@@ -6,7 +6,7 @@ use Rattle.std.proofs.lemmas.Slice.Eq.{bytes_eq-Decides}
 use Rattle.wh_policy.specs.declared.attribute.Dim.{Dim}
 use Rattle.wh_policy.specs.declared.record.DimensionRecord.{DimensionRecord}
 use Rattle.wh_history.specs.Accepted.{Accepted, Content, Describes, anchors, members, member_of}
-use Rattle.wh_history.specs.Touched.{Touched, touched, touch, touch_member, untouched, nothing_stored, touched_by}
+use Rattle.wh_history.specs.Touched.{TouchedMembers, touched, touch, touch_member, untouched, nothing_stored, touched_by}
 use Rattle.wh_history.specs.declared.member.Member.{Member}
 use Rattle.wh_history.proofs.Basics.{find_passes}
 use Rattle.wh_history.proofs.Batches.{touched_is}
@@ -24,7 +24,7 @@ pub named_so : (list : List Member) (natural : List ℕ) (m : Member) → named 
 named_so list natural m is = (bytes_eq-Decides m.natural natural).0 (find_passes (λ (q : Member). bytes_eq q.natural natural) m list is)
 
 -- of what is stored only the members that records mention matter
-told_alone : (f g : List ℕ → Member) (t : Touched) (rs : List DimensionRecord) → AllByRecursion (λ r. f r.natural ≡ g r.natural) rs → touched f t rs ≡ touched g t rs
+told_alone : (f g : List ℕ → Member) (t : TouchedMembers) (rs : List DimensionRecord) → AllByRecursion (λ r. f r.natural ≡ g r.natural) rs → touched f t rs ≡ touched g t rs
 told_alone f g t [] same = refl
 told_alone f g t (r ∷ rs) same =
     ap (λ m. touched f (touch_member t (unwrap_or (find (λ (q : Member). bytes_eq q.natural r.natural) t.list) m) r) rs) same.0

@@ -4,7 +4,7 @@ use Rattle.std.specs.List.{AllByRecursion}
 use Rattle.std.specs.Str.{is_utf8}
 use Rattle.wh_day.specs.Value.{no_card_text, unknown_text}
 use Rattle.wh_day.specs.declared.calendar.DateRow.{DateRow}
-use Rattle.wh_policy.specs.Policy.{types_of, policy_at}
+use Rattle.wh_policy.specs.Policy.{policy_types, read_policy}
 use Rattle.wh_policy.specs.Types.{is_profile}
 use Rattle.wh_policy.specs.declared.attribute.AttributeType.{AttributeType}
 use Rattle.wh_policy.specs.declared.attribute.Dim.{Dim}
@@ -22,12 +22,12 @@ use Rattle.wh_plan.specs.BatchRows.{numbers_after}
 
 -- up to six attributes a dimension, and holidays whose names are text
 pub record IsGoodPolicy (policy : Policy) : Type 0 where
-  pub six : (dim : Dim) → length (types_of policy dim) ≤ 6
+  pub six : (dim : Dim) → length (policy_types policy dim) ≤ 6
   pub names : AllByRecursion (λ holiday. is_utf8 holiday.name ≡ true) policy.holidays
 
 -- every policy that is read is such a policy
 abbrev pub PoliciesAreGood : Type 0
-PoliciesAreGood = (bytes : List ℕ) (policy : Policy) → policy_at bytes ≡ Ok policy → IsGoodPolicy policy
+PoliciesAreGood = (bytes : List ℕ) (policy : Policy) → read_policy bytes ≡ Ok policy → IsGoodPolicy policy
 
 -- the row of the making among the commands
 abbrev pub making_row : List ℕ → CommandRow

@@ -11,7 +11,7 @@ use Rattle.wh_history.specs.Known.{number_in, KnowsEnough}
 use Rattle.wh_history.specs.Slots.{picks, six, are_same}
 use Rattle.wh_history.specs.declared.member.Change.{Change}
 use Rattle.wh_history.specs.declared.member.Member.{Member}
-use Rattle.wh_history.specs.declared.profiles.Numbered.{Numbered}
+use Rattle.wh_history.specs.declared.profiles.NumberedProfile.{NumberedProfile}
 use Rattle.wh_rows.specs.declared.rows.ProfileRow.{ProfileRow}
 use Rattle.wh_rows.specs.Rows as row
 use Rattle.wh_store.specs.Reads.{same_slots}
@@ -43,10 +43,10 @@ abbrev pub number_kept : FinMap row.profile.order ProfileRow → List (List ℕ)
 number_kept table texts = option_map (λ r. r.number) (find (λ r. nat_le 2 r.number) (filter (λ r. same_slots texts r.values) (values table)))
 
 -- of some combinations those that have a number, with it
-abbrev pub numbered_as : (List (List ℕ) → Option ℕ) → List (List ℕ) → Option Numbered
+abbrev pub numbered_as : (List (List ℕ) → Option ℕ) → List (List ℕ) → Option NumberedProfile
 numbered_as number texts = option_map (λ n. record { texts = texts; number = n }) (number texts)
 
-abbrev pub learned : (List (List ℕ) → Option ℕ) → List (List (List ℕ)) → List Numbered
+abbrev pub learned : (List (List ℕ) → Option ℕ) → List (List (List ℕ)) → List NumberedProfile
 learned number combinations = filter_map (numbered_as number) combinations
 
 -- whether nothing is known of a combination
@@ -54,11 +54,11 @@ abbrev pub is_none : Option ℕ → Bool
 is_none None = true
 is_none (Some n) = false
 
-abbrev pub unknown : List Numbered → List (List (List ℕ)) → List (List (List ℕ))
+abbrev pub unknown : List NumberedProfile → List (List (List ℕ)) → List (List (List ℕ))
 unknown known combinations = filter (λ t. is_none (number_in known t)) combinations
 
 -- the row of a combination with its number
-abbrev pub row_of_profile : Numbered → ProfileRow
+abbrev pub row_of_profile : NumberedProfile → ProfileRow
 row_of_profile k = record { number = k.number; values = six k.texts }
 
 -- What is read of profiles for a batch: enough of the members' for their rows and facts, and the rows of the profiles that it is the first to show.

@@ -8,10 +8,10 @@ ghost use Rattle.std.specs.Option.{option_copied};
 
 use std::alloc::{AllocError, Global};
 use std::collections::BTreeMap;
-use wh_history::{Member, Rendered};
+use wh_history::{Member, RenderedRows};
 
 /// What has the natural key of a member.
-pub(crate) trait Named {
+pub(crate) trait HasNatural {
     ghost use Rattle.std.specs.Prelude.{ℕ, List};
 
     ghost name: { Self → List ℕ };
@@ -21,7 +21,7 @@ pub(crate) trait Named {
         ensures { result.now ≡ name self.now };
 }
 
-impl Named for Member {
+impl HasNatural for Member {
     ghost name = { λ m. m.natural };
 
     fn name(&self) -> &str {
@@ -29,7 +29,7 @@ impl Named for Member {
     }
 }
 
-impl Named for Rendered<'_> {
+impl HasNatural for RenderedRows<'_> {
     ghost name = { λ m. m.member.now.natural };
 
     fn name(&self) -> &str {
@@ -38,7 +38,7 @@ impl Named for Rendered<'_> {
 }
 
 /// What is named, by its natural key. Of two with one key the first counts.
-pub(crate) fn by_natural<T: Named>(
+pub(crate) fn by_natural<T: HasNatural>(
     alloc: Global,
     list: &[T],
 ) -> Result<BTreeMap<&str, &T>, AllocError>

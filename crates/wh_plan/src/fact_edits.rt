@@ -20,7 +20,7 @@ use wh_policy::Format;
 use wh_rows::LineKey;
 
 /// How two lines stand to each other: by the bytes of their tickets, and then by number.
-pub(crate) fn line_order(ticket: &Value, line: u32, other: &Value, another: u32) -> Ordering
+pub(crate) fn line_cmp(ticket: &Value, line: u32, other: &Value, another: u32) -> Ordering
     ensures { result ≡ line_cmp (record { ticket = ticket.now; line = line }) (record { ticket = other.now; line = another }) }
 {
     ticket.as_str().cmp(other.as_str()).then(line.cmp(&another))
@@ -30,7 +30,7 @@ pub(crate) fn line_order(ticket: &Value, line: u32, other: &Value, another: u32)
 fn by_line(a: &Fact, b: &Fact) -> Ordering
     ensures { result ≡ by_line a.now b.now }
 {
-    line_order(&a.ticket, a.line, &b.ticket, b.line)
+    line_cmp(&a.ticket, a.line, &b.ticket, b.line)
 }
 
 /// Puts facts in order of their lines.

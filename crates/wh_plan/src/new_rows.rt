@@ -4,7 +4,7 @@ ghost use Rattle.std.specs.Prelude.{◌≡◌, ◌++◌, ◌∷◌, [], List, le
 ghost use Rattle.std.specs.List.{AllByRecursion};
 ghost use Rattle.wh_history.specs.Accepted.{Accepted, Describes, members, profiles_of, types_in};
 ghost use Rattle.wh_history.specs.Known.{number_in, KnowsEnough};
-ghost use Rattle.wh_history.specs.Shapes.{shape_of, rows_in};
+ghost use Rattle.wh_history.specs.Shapes.{shape_of, shape_rows};
 ghost use Rattle.wh_history.specs.Touched.{touched_by};
 ghost use Rattle.wh_model.specs.Defined.{member_at, change_at};
 ghost use Rattle.wh_plan.specs.BatchRows.{numbers_after};
@@ -28,7 +28,7 @@ fn row_of_member(dim: Dim, member: &Member) -> Result<MemberRow, AllocError>
 }
 
 /// The rows of the touched members that are new: their durable keys come after all before the batch.
-pub fn new_members(
+pub fn new_member_rows(
     alloc: Global,
     dim: Dim,
     members_before: u64,
@@ -70,7 +70,7 @@ fn row_of_record(
 }
 
 /// The rows of a batch's records, by the members that it touches.
-pub fn new_changes(
+pub fn new_change_rows(
     alloc: Global,
     dim: Dim,
     command: u64,
@@ -101,7 +101,7 @@ pub fn rows_of_members(
     dimension: &DimensionShape,
     touched: &[Member],
 ) -> Result<Vec<DimRow>, AllocError>
-    ensures rows { IfOk result (λ found. found.items ≡ flat_map (rows_in (shape_of dimension.now)) touched.now) }
+    ensures rows { IfOk result (λ found. found.items ≡ flat_map (shape_rows (shape_of dimension.now)) touched.now) }
     // Under the policy in force with a batch, where enough is known of the members' profiles, they are the rows that the members have then.
     ensures planned { (before after : List Accepted) (records : Records) → touched.now ≡ (touched_by dimension.now.dim before after records).list
         → types_in dimension.now.dim after ≡ dimension.now.types.now

@@ -23,7 +23,7 @@ use wh_rows::{ChangeRow, CommandRow, tables};
 use wh_store::{CommandOf, GreatestOf, MemberOf, ReadFault, RecordsOf, RowsOf, Tables};
 
 /// The row of the command of an id, if one was accepted. `Damaged`: it is out of its type.
-pub fn command_of<S: Alter>(
+pub fn command_with<S: Alter>(
     tables: &mut Tables<S>,
     alloc: Global,
     id: &Value,
@@ -69,7 +69,7 @@ fn change_in(alloc: Global, row: &ChangeRow) -> Result<Change, AllocError>
     })
 }
 
-fn changes_in(alloc: Global, rows: &[ChangeRow]) -> Result<Changes, AllocError>
+fn changes_of_rows(alloc: Global, rows: &[ChangeRow]) -> Result<Changes, AllocError>
     ensures { IfOk result (λ changes. changes ≡ map change_in rows.now) }
 {
     let mut changes = Changes::new(alloc);
@@ -90,7 +90,7 @@ pub fn stored_changes<S: Alter>(
     ensures changes { Finds (state_of S.Store tables.old) (state_of S.Store tables.new) (λ _ commands. HaveNoEmptyValue commands → (natural : List ℕ) → 0 < durable → durable ≡ durable_key dim commands natural → IfOk result (λ changes. changes ≡ changes_of dim commands natural)) }
 {
     let rows = tables.ask::<tables::Change, RecordsOf>(alloc, &RecordsOf { dim, durable })?;
-    Ok(changes_in(alloc, &rows)?)
+    Ok(changes_of_rows(alloc, &rows)?)
 }
 
 /// The stored member; if there is none, one with zeros and no changes. `Damaged`: its row of member, or one of its rows of change, is out of its

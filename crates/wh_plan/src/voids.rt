@@ -12,7 +12,7 @@ ghost use Rattle.wh_plan.specs.VoidEdits.{by_line, fact_removed, void_edits, voi
 
 use crate::batch_rows::puts;
 use crate::edits::{Edits, FactEdit};
-use crate::fact_edits::{line_order, remove_at};
+use crate::fact_edits::{line_cmp, remove_at};
 use std::alloc::{AllocError, Global};
 use std::cmp::Ordering;
 use wh_day::Value;
@@ -39,7 +39,7 @@ fn void_rows(alloc: Global, number: u64, lines: &[VoidRecord]) -> Result<Vec<Voi
 fn by_line(a: &VoidRow, b: &VoidRow) -> Ordering
     ensures { result ≡ by_line a.now b.now }
 {
-    line_order(&a.ticket, a.line, &b.ticket, b.line)
+    line_cmp(&a.ticket, a.line, &b.ticket, b.line)
 }
 
 /// Puts rows in order of their lines.

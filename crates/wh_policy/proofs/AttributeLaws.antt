@@ -12,13 +12,13 @@ use Rattle.wh_policy.specs.declared.fault.PolicyFault.TheVariants.{Missing, Unkn
 use Rattle.wh_policy.specs.declared.attribute.Attribute.{Attribute}
 use Rattle.wh_policy.specs.declared.attribute.AttributeType.{AttributeType}
 use Rattle.wh_policy.specs.declared.attribute.Dim.{Dim}
-use Rattle.wh_policy.specs.Attributes.{is_name, found_name, name_at, kind_at, takes_profile, attribute_keys, is_named, attribute_at, attributes_at}
+use Rattle.wh_policy.specs.Attributes.{is_name, found_name, name_of, kind_of, takes_profile, attribute_keys, is_named, attribute_of, attributes_of}
 use Rattle.wh_policy.specs.Document.{has_only}
-use Rattle.wh_policy.specs.Types.{type_number, type_of_number, is_profile}
+use Rattle.wh_policy.specs.Types.{attribute_type_number, attribute_type_of_number, is_profile}
 use Rattle.wh_policy.specs.Written.{HasOnly, HasAll, IsArrayOf, At, IsNameData, IsTypeData, DifferAt, IsOutsideProfile, WritesAttribute}
 use Rattle.wh_policy.proofs.Judged.{Judged, judged-ok, judged-bind, judged-more, judged-unless, judged-or}
-use Rattle.wh_policy.proofs.TypeLemmas.{type_of_number-again, type_of_number-is, type_with, profile_numbers}
-use Rattle.wh_policy.proofs.WrittenLemmas.{as_str-is, as_integer-is, has_only-true, has_only-from, same_bytes, arrays_same, required-judged, tables_at-judged, each_after-judged, found_before, none_found, All-middle, AllPairs-middle, absent}
+use Rattle.wh_policy.proofs.TypeLemmas.{attribute_type_of_number-again, attribute_type_of_number-is, type_with, profile_numbers}
+use Rattle.wh_policy.proofs.WrittenLemmas.{as_str-is, as_integer-is, has_only-true, has_only-from, same_bytes, arrays_same, required-judged, tables_of-judged, each_after-judged, found_before, none_found, All-middle, AllPairs-middle, absent}
 
 -- the table writes the attribute, and keeps what is asked of one
 pub record IsAttribute (dim : Dim) (t : Members) (a : Attribute) : Type 0 where
@@ -46,9 +46,9 @@ found_name-judged : {bad : PolicyFault → Type 0} (found : Option (List ℕ)) �
 found_name-judged None none other = record { verdict = none refl }
 found_name-judged (Some name) none other = judged-unless (is_name name) BadName _ (other name refl) (λ yes. judged-ok name (refl, yes))
 
-name_at-judged : {bad : PolicyFault → Type 0} (content : Data) → (¬ IsNameData content → bad BadName) → Judged (λ name. (content ≡ string name) × IsTrue (is_name name)) bad (name_at content)
-unfolding name_at
-name_at-judged content fails = judged-more _
+name_of-judged : {bad : PolicyFault → Type 0} (content : Data) → (¬ IsNameData content → bad BadName) → Judged (λ name. (content ≡ string name) × IsTrue (is_name name)) bad (name_of content)
+unfolding name_of
+name_of-judged content fails = judged-more _
     (found_name-judged (as_str content)
     (λ none. fails (λ p. none-some p.0 (sym none ∙ ap as_str p.1)))
     (λ name found no. fails (λ p. both_ways (is_name name) no (rw (same_Some p.0 name (sym (ap as_str p.1) ∙ found)) at p.2))))
@@ -56,29 +56,29 @@ name_at-judged content fails = judged-more _
 
 -- a type
 
-kind_at-judged : {bad : PolicyFault → Type 0} (content : Data) → (¬ IsTypeData content → bad BadType) → Judged (λ kind. content ≡ integer (pos (type_number kind))) bad (kind_at content)
-unfolding kind_at
-kind_at-judged content fails = judged-or BadType (option_and_then type_of_number (as_integer content))
+kind_of-judged : {bad : PolicyFault → Type 0} (content : Data) → (¬ IsTypeData content → bad BadType) → Judged (λ kind. content ≡ integer (pos (attribute_type_number kind))) bad (kind_of content)
+unfolding kind_of
+kind_of-judged content fails = judged-or BadType (option_and_then attribute_type_of_number (as_integer content))
     (λ none. fails (λ p.
     let (kind, number) = type_with p.0 p.2 in
-    let is : content ≡ integer (pos (type_number kind)) = rw number p.1 in
-    none-some kind (sym (rw is at none) ∙ type_of_number-again kind)))
-    (λ kind e. option_and_then_some type_of_number (as_integer content) kind e (λ z found same.
-    as_integer-is content z found ∙ ap integer (type_of_number-is z kind same)))
+    let is : content ≡ integer (pos (attribute_type_number kind)) = rw number p.1 in
+    none-some kind (sym (rw is at none) ∙ attribute_type_of_number-again kind)))
+    (λ kind e. option_and_then_some attribute_type_of_number (as_integer content) kind e (λ z found same.
+    as_integer-is content z found ∙ ap integer (attribute_type_of_number-is z kind same)))
 
 neither : (a b : Bool) → (a || b) ≡ false → (a ≡ false) × (b ≡ false)
 neither true b h = cc
 neither false b h = (refl, h)
 
-profile_refused : (t : Members) (kind : AttributeType) → get_member (codes "type") t ≡ Some (integer (pos (type_number kind))) → is_profile kind ≡ true → IsOutsideProfile t → ⊥
+profile_refused : (t : Members) (kind : AttributeType) → get_member (codes "type") t ≡ Some (integer (pos (attribute_type_number kind))) → is_profile kind ≡ true → IsOutsideProfile t → ⊥
 profile_refused t kind is profile outside =
-    let (four, five) = outside (type_number kind) is in
+    let (four, five) = outside (attribute_type_number kind) is in
     elim (profile_numbers kind profile) [ inl a ↦ four a | inr b ↦ five b ]
 
-pub attribute_at-judged : {bad : PolicyFault → Type 0} (dim : Dim) (before : List Members) (t : Members) (after : List Members) (earlier : List Attribute)
-    → AllZip (IsAttribute dim) before earlier → Reasons dim bad (before ++ t ∷ after) → Judged (λ a. IsAttribute dim t a × All (λ b. b.name ≢ a.name) earlier) bad (attribute_at dim earlier t)
-unfolding attribute_at
-attribute_at-judged dim before t after earlier zip reasons =
+pub attribute_of-judged : {bad : PolicyFault → Type 0} (dim : Dim) (before : List Members) (t : Members) (after : List Members) (earlier : List Attribute)
+    → AllZip (IsAttribute dim) before earlier → Reasons dim bad (before ++ t ∷ after) → Judged (λ a. IsAttribute dim t a × All (λ b. b.name ≢ a.name) earlier) bad (attribute_of dim earlier t)
+unfolding attribute_of
+attribute_of-judged dim before t after earlier zip reasons =
     judged-unless (has_only attribute_keys t) UnknownKey _
     (λ no. reasons.unknown (λ all. both_ways _ no (has_only-from attribute_keys t (All-middle (HasOnly attribute_keys) before t after all)))) (λ only.
     judged-bind {mid = λ content. get_member (codes "name") t ≡ Some content} _ _
@@ -86,10 +86,10 @@ attribute_at-judged dim before t after earlier zip reasons =
     judged-bind {mid = λ content. get_member (codes "type") t ≡ Some content} _ _
     (required-judged (codes "type") t (λ none. reasons.missing (λ all. absent none (All-middle (HasAll attribute_keys) before t after all 1 [] (omega arith))))) (λ kind_content kind_there.
     judged-bind {mid = λ name. (name_content ≡ string name) × IsTrue (is_name name)} _ _
-    (name_at-judged name_content (λ none. reasons.name (λ all. none (rw name_there at (All-middle (At (codes "name") IsNameData) before t after all))))) (λ name named.
-    judged-bind {mid = λ kind. kind_content ≡ integer (pos (type_number kind))} _ _
-    (kind_at-judged kind_content (λ none. reasons.kind (λ all. none (rw kind_there at (All-middle (At (codes "type") IsTypeData) before t after all))))) (λ kind typed.
-    let kind_is : get_member (codes "type") t ≡ Some (integer (pos (type_number kind))) = kind_there ∙ ap Some typed in
+    (name_of-judged name_content (λ none. reasons.name (λ all. none (rw name_there at (All-middle (At (codes "name") IsNameData) before t after all))))) (λ name named.
+    judged-bind {mid = λ kind. kind_content ≡ integer (pos (attribute_type_number kind))} _ _
+    (kind_of-judged kind_content (λ none. reasons.kind (λ all. none (rw kind_there at (All-middle (At (codes "type") IsTypeData) before t after all))))) (λ kind typed.
+    let kind_is : get_member (codes "type") t ≡ Some (integer (pos (attribute_type_number kind))) = kind_there ∙ ap Some typed in
     let name_is : get_member (codes "name") t ≡ Some (string name) = name_there ∙ ap Some named.0 in
     judged-unless (takes_profile dim || not (is_profile kind)) ProfileOutside _
     (λ no. let none = neither (takes_profile dim) (not (is_profile kind)) no in reasons.outside none.0 (λ all. profile_refused t kind kind_is (not-false _ none.1) (All-middle IsOutsideProfile before t after all))) (λ yes.
@@ -116,15 +116,15 @@ pub record AreWritten (dim : Dim) (content : Data) (attributes : List Attribute)
   pub few : length tables ≤ 6
   pub once : AreDistinct attributes
 
-pub attributes_at-judged : {bad : PolicyFault → Type 0} (dim : Dim) (content : Data)
+pub attributes_of-judged : {bad : PolicyFault → Type 0} (dim : Dim) (content : Data)
     → (((tables : List Members) → IsArrayOf tables content → ¬ (1 ≤ length tables)) → bad Missing)
     → ((tables : List Members) → IsArrayOf tables content → ¬ (length tables ≤ 6) → bad TooMany)
     → ((tables : List Members) → IsArrayOf tables content → Reasons dim bad tables)
-    → Judged (AreWritten dim content) bad (attributes_at dim content)
-unfolding attributes_at
-attributes_at-judged {bad = bad} dim content missing many reasons =
+    → Judged (AreWritten dim content) bad (attributes_of dim content)
+unfolding attributes_of
+attributes_of-judged {bad = bad} dim content missing many reasons =
     judged-bind {mid = λ tables. IsArrayOf tables content} _ _
-    (tables_at-judged Missing content (λ none. missing (λ tables is some. none tables is))) (λ tables is.
+    (tables_of-judged Missing content (λ none. missing (λ tables is some. none tables is))) (λ tables is.
     judged-unless (not (length tables == 0)) Missing _
     (λ no. missing (λ others same some.
     let empty : length tables ≡ 0 = eqb-true _ _ (not-false _ no) in
@@ -133,7 +133,7 @@ attributes_at-judged {bad = bad} dim content missing many reasons =
     judged-unless (nat_le (length tables) 6) TooMany _
     (λ no. many tables is (λ few. both_ways _ no (le-leb _ _ few))) (λ few.
     judged-more {mid = λ attributes. AllZip (IsAttribute dim) tables attributes × AreDistinct attributes} _
-    (each_after-judged (attribute_at dim) (IsAttribute dim) (λ a b. a.name ≢ b.name) (Reasons dim bad) (attribute_at-judged dim) [] [] tables tt
+    (each_after-judged (attribute_of dim) (IsAttribute dim) (λ a b. a.name ≢ b.name) (Reasons dim bad) (attribute_of-judged dim) [] [] tables tt
     (λ i j d below within. absurd (omega arith)) (reasons tables is)) (λ attributes p.
     let some : 1 ≤ length tables = omega (arith, eqb-false _ _ (not-true _ yes)) in
     record { tables = tables; array = is; each = p.0; some = some; few = leb-true _ _ few; once = p.1 }))))

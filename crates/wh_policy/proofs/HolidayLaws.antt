@@ -16,10 +16,10 @@ use Rattle.wh_policy.specs.declared.fault.PolicyFault.TheVariants.{Missing, Unkn
 use Rattle.wh_policy.specs.declared.policy.Years.{Years}
 use Rattle.wh_policy.specs.Document.{has_only}
 use Rattle.wh_policy.specs.Years.{is_within}
-use Rattle.wh_policy.specs.Holidays.{found_day, day_at, read_named, title_at, holiday_keys, holiday_at, holidays_at}
+use Rattle.wh_policy.specs.Holidays.{found_day, day_of, read_named, title_of, holiday_keys, holiday_of, holidays_of}
 use Rattle.wh_policy.specs.Written.{HasOnly, HasAll, IsArrayOf, At, IsWithin, IsDayData, IsTitleData, DifferAt, WritesHoliday}
 use Rattle.wh_policy.proofs.Judged.{Judged, judged-ok, judged-bind, judged-more, judged-unless, judged-or}
-use Rattle.wh_policy.proofs.WrittenLemmas.{as_str-is, has_only-true, has_only-from, required-judged, tables_at-judged, each_after-judged, found_before, none_found, All-middle, AllPairs-middle, absent}
+use Rattle.wh_policy.proofs.WrittenLemmas.{as_str-is, has_only-true, has_only-from, required-judged, tables_of-judged, each_after-judged, found_before, none_found, All-middle, AllPairs-middle, absent}
 
 -- the table writes the holiday, and keeps what is asked of one
 pub record IsHoliday (years : Years) (t : Members) (h : Holiday) : Type 0 where
@@ -59,10 +59,10 @@ found_day-judged years (Some day) fails =
 abbrev day_in : Data → Option ℕ
 day_in content = option_and_then read_day (as_str content)
 
-day_at-judged : {bad : PolicyFault → Type 0} (years : Years) (content : Data) → (¬ IsDayData years content → bad BadHoliday)
-    → Judged (λ day. (content ≡ string (day_text day)) × IsTrue (is_day day) × IsWithin years day) bad (day_at years content)
-unfolding day_at
-day_at-judged years content fails = judged-more _
+day_of-judged : {bad : PolicyFault → Type 0} (years : Years) (content : Data) → (¬ IsDayData years content → bad BadHoliday)
+    → Judged (λ day. (content ≡ string (day_text day)) × IsTrue (is_day day) × IsWithin years day) bad (day_of years content)
+unfolding day_of
+day_of-judged years content fails = judged-more _
     (found_day-judged years (day_in content) (λ none. fails (λ p.
     let here : day_in content ≡ Some p.0 = rw p.1 (read_day-text p.0 p.2) in
     none p.0 here p.3)))
@@ -84,10 +84,10 @@ read_named-from : (name : List ℕ) → name ≢ [] → read_value name ≡ Some
 read_named-from [] some e = absurd (some refl)
 read_named-from (first ∷ rest) some e = e
 
-title_at-judged : {bad : PolicyFault → Type 0} (content : Data) → (¬ IsTitleData content → bad BadHoliday)
-    → Judged (λ name. (content ≡ string name) × (name ≢ []) × (read_value name ≡ Some name)) bad (title_at content)
-unfolding title_at
-title_at-judged content fails = judged-or BadHoliday (option_and_then read_named (as_str content))
+title_of-judged : {bad : PolicyFault → Type 0} (content : Data) → (¬ IsTitleData content → bad BadHoliday)
+    → Judged (λ name. (content ≡ string name) × (name ≢ []) × (read_value name ≡ Some name)) bad (title_of content)
+unfolding title_of
+title_of-judged content fails = judged-or BadHoliday (option_and_then read_named (as_str content))
     (λ none. fails (λ p.
     let here : option_and_then read_named (as_str content) ≡ Some p.0 = rw p.1 (read_named-from p.0 p.2 p.3) in
     none-some p.0 (sym none ∙ here)))
@@ -97,10 +97,10 @@ title_at-judged content fails = judged-or BadHoliday (option_and_then read_named
 
 -- a holiday
 
-pub holiday_at-judged : {bad : PolicyFault → Type 0} (years : Years) (before : List Members) (t : Members) (after : List Members) (earlier : List Holiday)
-    → AllZip (IsHoliday years) before earlier → Reasons years bad (before ++ t ∷ after) → Judged (λ h. IsHoliday years t h × All (λ g. g.day ≢ h.day) earlier) bad (holiday_at years earlier t)
-unfolding holiday_at
-holiday_at-judged years before t after earlier zip reasons =
+pub holiday_of-judged : {bad : PolicyFault → Type 0} (years : Years) (before : List Members) (t : Members) (after : List Members) (earlier : List Holiday)
+    → AllZip (IsHoliday years) before earlier → Reasons years bad (before ++ t ∷ after) → Judged (λ h. IsHoliday years t h × All (λ g. g.day ≢ h.day) earlier) bad (holiday_of years earlier t)
+unfolding holiday_of
+holiday_of-judged years before t after earlier zip reasons =
     judged-unless (has_only holiday_keys t) UnknownKey _
     (λ no. reasons.unknown (λ all. both_ways _ no (has_only-from holiday_keys t (All-middle (HasOnly holiday_keys) before t after all)))) (λ only.
     judged-bind {mid = λ content. get_member (codes "day") t ≡ Some content} _ _
@@ -108,9 +108,9 @@ holiday_at-judged years before t after earlier zip reasons =
     judged-bind {mid = λ content. get_member (codes "name") t ≡ Some content} _ _
     (required-judged (codes "name") t (λ none. reasons.missing (λ all. absent none (All-middle (HasAll holiday_keys) before t after all 1 [] (omega arith))))) (λ name_content name_there.
     judged-bind {mid = λ day. (day_content ≡ string (day_text day)) × IsTrue (is_day day) × IsWithin years day} _ _
-    (day_at-judged years day_content (λ none. reasons.day (λ all. none (rw day_there at (All-middle (At (codes "day") (IsDayData years)) before t after all))))) (λ day dated.
+    (day_of-judged years day_content (λ none. reasons.day (λ all. none (rw day_there at (All-middle (At (codes "day") (IsDayData years)) before t after all))))) (λ day dated.
     judged-bind {mid = λ name. (name_content ≡ string name) × (name ≢ []) × (read_value name ≡ Some name)} _ _
-    (title_at-judged name_content (λ none. reasons.name (λ all. none (rw name_there at (All-middle (At (codes "name") IsTitleData) before t after all))))) (λ name named.
+    (title_of-judged name_content (λ none. reasons.name (λ all. none (rw name_there at (All-middle (At (codes "name") IsTitleData) before t after all))))) (λ name named.
     let day_is : get_member (codes "day") t ≡ Some (string (day_text day)) = day_there ∙ ap Some dated.0 in
     let name_is : get_member (codes "name") t ≡ Some (string name) = name_there ∙ ap Some named.0 in
     judged-unless (not (list_any (is_on day) earlier)) BadHoliday _
@@ -134,15 +134,15 @@ abbrev pub HolidaysAre : Years → Option Data → List Holiday → Type 0
 HolidaysAre years None holidays = holidays ≡ []
 HolidaysAre years (Some content) holidays = (tables : List Members) × IsArrayOf tables content × AllZip (IsHoliday years) tables holidays × HaveDistinctDays holidays
 
-pub holidays_at-judged : {bad : PolicyFault → Type 0} (years : Years) (found : Option Data)
+pub holidays_of-judged : {bad : PolicyFault → Type 0} (years : Years) (found : Option Data)
     → ((content : Data) → found ≡ Some content → ((tables : List Members) → ¬ IsArrayOf tables content) → bad BadHoliday)
     → ((content : Data) (tables : List Members) → found ≡ Some content → IsArrayOf tables content → Reasons years bad tables)
-    → Judged (HolidaysAre years found) bad (holidays_at years found)
-unfolding holidays_at
-holidays_at-judged years None none reasons = judged-ok [] refl
-holidays_at-judged {bad} years (Some content) none reasons =
-    judged-bind {mid = λ tables. IsArrayOf tables content} _ _ (tables_at-judged BadHoliday content (none content refl)) (λ tables is.
+    → Judged (HolidaysAre years found) bad (holidays_of years found)
+unfolding holidays_of
+holidays_of-judged years None none reasons = judged-ok [] refl
+holidays_of-judged {bad} years (Some content) none reasons =
+    judged-bind {mid = λ tables. IsArrayOf tables content} _ _ (tables_of-judged BadHoliday content (none content refl)) (λ tables is.
     judged-more {mid = λ holidays. AllZip (IsHoliday years) tables holidays × HaveDistinctDays holidays} _
-    (each_after-judged (holiday_at years) (IsHoliday years) (λ g h. g.day ≢ h.day) (Reasons years bad) (holiday_at-judged years) [] [] tables tt
+    (each_after-judged (holiday_of years) (IsHoliday years) (λ g h. g.day ≢ h.day) (Reasons years bad) (holiday_of-judged years) [] [] tables tt
     (λ i j d below within. absurd (omega arith)) (reasons content tables refl is)) (λ holidays p.
     (tables, is, p.0, p.1)))

@@ -5,24 +5,24 @@ use Rattle.wh_policy.specs.declared.attribute.Dim.TheVariants.{Product, Store, C
 use Rattle.wh_policy.specs.declared.policy.Policy.{Policy}
 use Rattle.wh_policy.specs.Laws.{TypesHaveNumbers, NamesAreFound, NoOthersAreFound, IsFit, FitsExactly}
 use Rattle.wh_policy.specs.Names.{are_kept, fits}
-use Rattle.wh_policy.specs.Policy.{attributes_of}
+use Rattle.wh_policy.specs.Policy.{policy_attributes}
 use Rattle.wh_policy.proofs.NameLemmas.{found_stands, stands_found, none_stands, none_found, kept_names, names_kept}
 use Rattle.wh_policy.proofs.PolicyLaws.{each_dim}
-use Rattle.wh_policy.proofs.TypeLemmas.{type_of_number-again, type_of_number-is}
+use Rattle.wh_policy.proofs.TypeLemmas.{attribute_type_of_number-again, attribute_type_of_number-is}
 
 pub types_have_numbers : TypesHaveNumbers
-types_have_numbers number kind = (type_of_number-is number kind, λ is. rw is (type_of_number-again kind))
+types_have_numbers number kind = (attribute_type_of_number-is number kind, λ is. rw is (attribute_type_of_number-again kind))
 
 pub names_are_found : NamesAreFound
 names_are_found policy dim name place number sound = (
-  λ e. let (k, is, stands) = found_stands 1 name (attributes_of policy dim) (1 + place) number e in
+  λ e. let (k, is, stands) = found_stands 1 name (policy_attributes policy dim) (1 + place) number e in
       let same : k ≡ place = omega (arith, is) in
       rw same at stands,
-  stands_found 1 name (attributes_of policy dim) place number (sound.attributes dim).once,
+  stands_found 1 name (policy_attributes policy dim) place number (sound.attributes dim).once,
 )
 
 pub no_others_are_found : NoOthersAreFound
-no_others_are_found policy dim name = (none_stands 1 name (attributes_of policy dim), none_found 1 name (attributes_of policy dim))
+no_others_are_found policy dim name = (none_stands 1 name (policy_attributes policy dim), none_found 1 name (policy_attributes policy dim))
 
 fits_is : (old new : Policy) → fits old new ≡ true → IsFit old new
 fits_is old new h =

@@ -11,11 +11,11 @@ use Rattle.wh_policy.specs.declared.attribute.Attribute.{Attribute}
 use Rattle.wh_policy.specs.Attributes.{is_named}
 use Rattle.wh_policy.specs.Laws.{StandsAt}
 use Rattle.wh_policy.specs.Names.{slot_from, are_kept}
-use Rattle.wh_policy.specs.Types.{type_number}
+use Rattle.wh_policy.specs.Types.{attribute_type_number}
 use Rattle.wh_policy.proofs.WrittenLemmas.{same_bytes, AllPairs-first, AllPairs-rest}
 
 pub slot-here : (attributes : List Attribute) (i : ℕ) (a : Attribute) (name : List ℕ) → i < length attributes → a ≡ get_or attributes i a → is_named name a ≡ true
-    → slot_from (i + 1) name (drop i attributes) ≡ Some (i + 1, type_number a.kind)
+    → slot_from (i + 1) name (drop i attributes) ≡ Some (i + 1, attribute_type_number a.kind)
 unfolding slot_from
 slot-here attributes i a name lt is same = let here = rw (← is) at (drop_more attributes i a lt) in rw (here, same) refl
 
@@ -41,7 +41,7 @@ unfolding slot_from
 found_stands first name [] slot number e = absurd (none-some _ e)
 found_stands first name (a ∷ attributes) slot number e = elim (cases_Bool (is_named name a)) [
   | inl here ↦
-      let parts = some_pair_parts first slot (type_number a.kind) number (rw here at e) in
+      let parts = some_pair_parts first slot (attribute_type_number a.kind) number (rw here at e) in
       (0, omega (arith, parts.0), record { attribute = a; there = refl; same_name = same_bytes a.name name here; same_type = parts.1 })
   | inr later ↦
       let (place, is, stands) = found_stands (first + 1) name attributes slot number (rw later at e) in
@@ -56,7 +56,7 @@ stands_found first name [] place number distinct h = absurd (none-some _ h.there
 stands_found first name (a ∷ attributes) zero number distinct h =
     let same : a ≡ h.attribute = same_Some a h.attribute h.there in
     let here = named a name (ap (λ (b : Attribute). b.name) same ∙ h.same_name) in
-    let kind : type_number a.kind ≡ number = ap (λ (b : Attribute). type_number b.kind) same ∙ h.same_type in
+    let kind : attribute_type_number a.kind ≡ number = ap (λ (b : Attribute). attribute_type_number b.kind) same ∙ h.same_type in
     let slot : first ≡ first + 0 = omega arith in
     rw (here, kind) (ap (λ (n : ℕ). Some (n, number)) slot)
 stands_found first name (a ∷ attributes) (suc place) number distinct h =

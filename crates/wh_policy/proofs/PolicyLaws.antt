@@ -10,25 +10,25 @@ use Rattle.wh_policy.specs.declared.attribute.Dim.{Dim}
 use Rattle.wh_policy.specs.declared.attribute.Dim.TheVariants.{Product, Store, Customer}
 use Rattle.wh_policy.specs.declared.policy.Policy.{Policy}
 use Rattle.wh_policy.specs.declared.policy.Years.{Years}
-use Rattle.wh_policy.specs.Attributes.{takes_profile, is_mixed, attributes_at}
+use Rattle.wh_policy.specs.Attributes.{takes_profile, is_mixed, attributes_of}
 use Rattle.wh_policy.specs.Document.{has_only}
-use Rattle.wh_policy.specs.Holidays.{holidays_at}
+use Rattle.wh_policy.specs.Holidays.{holidays_of}
 use Rattle.wh_policy.specs.Types.{is_mini, is_outrigger}
-use Rattle.wh_policy.specs.Words.{word_of}
-use Rattle.wh_policy.specs.Years.{years_at}
-use Rattle.wh_policy.specs.Policy.{attributes_of, top_keys, policy_in}
+use Rattle.wh_policy.specs.Words.{dim_word}
+use Rattle.wh_policy.specs.Years.{years_of}
+use Rattle.wh_policy.specs.Policy.{policy_attributes, top_keys, policy_of_table}
 use Rattle.wh_policy.specs.Written.{HasOnly, AreYears, WritesYears, IsFreeOf}
 use Rattle.wh_policy.proofs.Judged.{Judged, judged-ok, judged-bind, judged-more, judged-unless}
-use Rattle.wh_policy.proofs.AttributeLaws.{IsAttribute, AreWritten, attributes_at-judged}
-use Rattle.wh_policy.proofs.HolidayLaws.{HolidaysAre, holidays_at-judged}
+use Rattle.wh_policy.proofs.AttributeLaws.{IsAttribute, AreWritten, attributes_of-judged}
+use Rattle.wh_policy.proofs.HolidayLaws.{HolidaysAre, holidays_of-judged}
 use Rattle.wh_policy.proofs.WrittenLemmas.{found_before, has_only-true, has_only-from, required-judged, absent}
 use Rattle.wh_policy.proofs.TypeLemmas.{mini_number, outrigger_number}
-use Rattle.wh_policy.proofs.YearLaws.{years_at-judged}
+use Rattle.wh_policy.proofs.YearLaws.{years_of-judged}
 
 -- the table writes the policy, and keeps what is asked of one
 pub record IsRead (ms : Members) (policy : Policy) : Type 0 where
   pub only : HasOnly top_keys ms
-  pub attributes : (dim : Dim) → (content : Data) × (get_member (word_of dim) ms ≡ Some content) × AreWritten dim content (attributes_of policy dim)
+  pub attributes : (dim : Dim) → (content : Data) × (get_member (dim_word dim) ms ≡ Some content) × AreWritten dim content (policy_attributes policy dim)
   pub unmixed : is_mixed policy.customer ≡ false
   pub writes : WritesYears ms policy.years
   pub years : AreYears policy.years
@@ -49,8 +49,8 @@ not_customer Product takes is = cc
 not_customer Store takes is = cc
 not_customer Customer takes is = cc
 
-dimension-judged : (ms : Members) (dim : Dim) (content : Data) → get_member (word_of dim) ms ≡ Some content → Judged (AreWritten dim content) (IsIn ms) (attributes_at dim content)
-dimension-judged ms dim content there = attributes_at-judged dim content
+dimension-judged : (ms : Members) (dim : Dim) (content : Data) → get_member (dim_word dim) ms ≡ Some content → Judged (AreWritten dim content) (IsIn ms) (attributes_of dim content)
+dimension-judged ms dim content there = attributes_of-judged dim content
     (λ none whole. let (tables, has, some) = whole.dimensions dim in none tables (same_Some _ _ (sym there ∙ has)) some)
     (λ tables is more each. more (each dim tables (there ∙ ap Some is)))
     (λ tables is. let has = there ∙ ap Some is in record {
@@ -63,7 +63,7 @@ dimension-judged ms dim content there = attributes_at-judged dim content
     })
 
 -- types 4 and 5 in one dimension are so in the table
-mixed-judged : (ms : Members) (content : Data) (customer : List Attribute) → get_member (word_of Customer) ms ≡ Some content → AreWritten Customer content customer → is_mixed customer ≡ true → IsIn ms ProfileMixed
+mixed-judged : (ms : Members) (content : Data) (customer : List Attribute) → get_member (dim_word Customer) ms ≡ Some content → AreWritten Customer content customer → is_mixed customer ≡ true → IsIn ms ProfileMixed
 mixed-judged ms content customer there written mixed free =
     let both = and_cases mixed in
     elim (free written.tables (there ∙ ap Some written.array)) [
@@ -80,14 +80,14 @@ mixed-judged ms content customer there written mixed free =
     and_cases {a = false} {b = b} h = cc
 
 years-judged : (ms : Members) (first last : Data) → get_member (codes "first_year") ms ≡ Some first → get_member (codes "last_year") ms ≡ Some last
-    → Judged (λ years. WritesYears ms years × AreYears years) (IsIn ms) (years_at first last)
+    → Judged (λ years. WritesYears ms years × AreYears years) (IsIn ms) (years_of first last)
 years-judged ms first last first_there last_there = judged-more _
-    (years_at-judged first last (λ none p. none p.0 (same_Some _ _ (sym first_there ∙ p.1.first)) (same_Some _ _ (sym last_there ∙ p.1.last)) p.2))
+    (years_of-judged first last (λ none p. none p.0 (same_Some _ _ (sym first_there ∙ p.1.first)) (same_Some _ _ (sym last_there ∙ p.1.last)) p.2))
     (λ years p. (record { first = first_there ∙ ap Some p.0; last = last_there ∙ ap Some p.1 }, p.2))
 
 holidays-judged : (ms : Members) (years : Years) → WritesYears ms years
-    → Judged (HolidaysAre years (get_member (codes "holiday") ms)) (IsIn ms) (holidays_at years (get_member (codes "holiday") ms))
-holidays-judged ms years writes = holidays_at-judged years (get_member (codes "holiday") ms)
+    → Judged (HolidaysAre years (get_member (codes "holiday") ms)) (IsIn ms) (holidays_of years (get_member (codes "holiday") ms))
+holidays-judged ms years writes = holidays_of-judged years (get_member (codes "holiday") ms)
     (λ content found none good. let p = rw found at good.tables in none p.0 p.1)
     (λ content tables found is. let has = found ∙ ap Some is in record {
       unknown = λ none keys. none (keys.holidays tables has);
@@ -97,9 +97,9 @@ holidays-judged ms years writes = holidays_at-judged years (get_member (codes "h
       twice = λ none good. none (good.once tables has);
     })
 
-pub policy_in-judged : (ms : Members) → Judged (IsRead ms) (IsIn ms) (policy_in ms)
-unfolding policy_in
-policy_in-judged ms =
+pub policy_of_table-judged : (ms : Members) → Judged (IsRead ms) (IsIn ms) (policy_of_table ms)
+unfolding policy_of_table
+policy_of_table-judged ms =
     judged-unless (has_only top_keys ms) UnknownKey _ (λ no keys. both_ways _ no (has_only-from top_keys ms keys.top)) (λ only.
     judged-bind {mid = λ content. get_member (codes "first_year") ms ≡ Some content} _ _ (required-judged (codes "first_year") ms (λ none whole. absent none (whole.top 0 [] (omega arith)))) (λ first_year first_there.
     judged-bind {mid = λ content. get_member (codes "last_year") ms ≡ Some content} _ _ (required-judged (codes "last_year") ms (λ none whole. absent none (whole.top 1 [] (omega arith)))) (λ last_year last_there.

@@ -20,14 +20,14 @@ use Rattle.wh_policy.specs.declared.policy.Policy.{Policy}
 use Rattle.wh_policy.specs.declared.policy.Years.{Years}
 use Rattle.wh_policy.specs.Attributes.{attribute_keys, is_name, takes_profile}
 use Rattle.wh_policy.specs.Holidays.{holiday_keys}
-use Rattle.wh_policy.specs.Policy.{attributes_of}
-use Rattle.wh_policy.specs.Types.{is_profile, is_mini, is_outrigger, type_number}
-use Rattle.wh_policy.specs.Words.{word_of}
+use Rattle.wh_policy.specs.Policy.{policy_attributes}
+use Rattle.wh_policy.specs.Types.{is_profile, is_mini, is_outrigger, attribute_type_number}
+use Rattle.wh_policy.specs.Words.{dim_word}
 use Rattle.wh_policy.specs.Written.{HasKey, HasOnly, HasAll, HasTables, IsArrayOf, EachAttribute, EachHoliday, KeysAreKnown, needed_keys, IsWhole, At, IsNameData, IsTypeData, IsWithin, IsDayData, IsTitleData, DifferAt, IsOutsideProfile, IsNotOfType, HolidaysAreGood, IsFreeOf, WritesAttribute, WritesHoliday, WritesHolidays, Writes, AreAttributes, IsSound}
 use Rattle.wh_policy.proofs.AttributeLaws.{IsAttribute, AreWritten}
 use Rattle.wh_policy.proofs.HolidayLaws.{IsHoliday, HolidaysAre}
 use Rattle.wh_policy.proofs.PolicyLaws.{IsRead}
-use Rattle.wh_policy.proofs.TypeLemmas.{type_number-small, other_numbers, not_four, not_five}
+use Rattle.wh_policy.proofs.TypeLemmas.{attribute_type_number-small, other_numbers, not_four, not_five}
 use Rattle.wh_policy.proofs.WrittenOnce.{years_once}
 use Rattle.wh_policy.proofs.WrittenLemmas.{string_same, integer_same, arrays_same, zip-all, zip-all_right, zip-more, zip-pairs, zip-with_first, none_found}
 
@@ -35,15 +35,15 @@ there : {content : Data} {found : Option Data} → found ≡ Some content → Is
 there e = rw e refl
 
 -- the tables of a dimension are those that were read
-dimension_tables : (ms : Members) (policy : Policy) → IsRead ms policy → (dim : Dim) (tables : List Members) → HasTables (word_of dim) ms tables
-    → AllZip (IsAttribute dim) tables (attributes_of policy dim)
+dimension_tables : (ms : Members) (policy : Policy) → IsRead ms policy → (dim : Dim) (tables : List Members) → HasTables (dim_word dim) ms tables
+    → AllZip (IsAttribute dim) tables (policy_attributes policy dim)
 dimension_tables ms policy read dim tables has =
     let (content, found, written) = read.attributes dim in
     let is : content ≡ array _ = same_Some _ _ (sym found ∙ has) in
     rw (arrays_same content written.tables tables written.array is) at written.each
 
 each_attribute : (P : Members → Type 0) → ((dim : Dim) (t : Members) (a : Attribute) → IsAttribute dim t a → P t) → (ms : Members) (policy : Policy) → IsRead ms policy → EachAttribute P ms
-each_attribute P f ms policy read dim tables has = zip-all (IsAttribute dim) P (f dim) tables (attributes_of policy dim) (dimension_tables ms policy read dim tables has)
+each_attribute P f ms policy read dim tables has = zip-all (IsAttribute dim) P (f dim) tables (policy_attributes policy dim) (dimension_tables ms policy read dim tables has)
 
 holiday_tables : (ms : Members) (policy : Policy) → IsRead ms policy → (tables : List Members) → HasTables (codes "holiday") ms tables
     → AllZip (IsHoliday policy.years) tables policy.holidays × AllPairs (λ g h. g.day ≢ h.day) policy.holidays
@@ -83,7 +83,7 @@ is_name_data : (dim : Dim) (t : Members) (a : Attribute) → IsAttribute dim t a
 is_name_data dim t a is = rw is.writes.name (a.name, refl, is.named)
 
 is_type_data : (dim : Dim) (t : Members) (a : Attribute) → IsAttribute dim t a → At (codes "type") IsTypeData t
-is_type_data dim t a is = rw is.writes.kind (type_number a.kind, refl, type_number-small a.kind)
+is_type_data dim t a is = rw is.writes.kind (attribute_type_number a.kind, refl, attribute_type_number-small a.kind)
 
 takes_none : (dim : Dim) → dim ≢ Customer → takes_profile dim ≡ false
 takes_none Product other = refl
@@ -92,7 +92,7 @@ takes_none Customer other = absurd (other refl)
 
 is_outside : (dim : Dim) → dim ≢ Customer → (t : Members) (a : Attribute) → IsAttribute dim t a → IsOutsideProfile t
 is_outside dim other t a is n e =
-    let same : n ≡ type_number a.kind = ap unsigned_abs (integer_same _ _ (same_Some _ _ (sym e ∙ is.writes.kind))) in
+    let same : n ≡ attribute_type_number a.kind = ap unsigned_abs (integer_same _ _ (same_Some _ _ (sym e ∙ is.writes.kind))) in
     rw same (other_numbers a.kind (is.outside (takes_none dim other)))
 
 names_differ : (dim : Dim) (t u : Members) (a b : Attribute) → IsAttribute dim t a → IsAttribute dim u b → a.name ≢ b.name → DifferAt (codes "name") t u
@@ -121,13 +121,13 @@ holidays_are_good ms policy read = record {
       zip-pairs (IsHoliday policy.years) (DifferAt (codes "day")) (λ g h. g.day ≢ h.day) (days_differ policy.years) tables policy.holidays p.0 p.1;
 }
 
-not_of_type : (n : ℕ) (test : Attribute → Bool) → ((a : Attribute) → test a ≡ false → type_number a.kind ≢ n) → (tables : List Members) (attributes : List Attribute) → AllZip (IsAttribute Customer) tables attributes → list_any test attributes ≡ false → All (IsNotOfType n) tables
+not_of_type : (n : ℕ) (test : Attribute → Bool) → ((a : Attribute) → test a ≡ false → attribute_type_number a.kind ≢ n) → (tables : List Members) (attributes : List Attribute) → AllZip (IsAttribute Customer) tables attributes → list_any test attributes ≡ false → All (IsNotOfType n) tables
 not_of_type n test others tables attributes zip none =
     zip-with_first (IsAttribute Customer) (IsNotOfType n) (λ a. test a ≡ false)
     (λ t a is fails typed. others a fails (ap unsigned_abs (integer_same _ _ (same_Some _ _ (sym is.writes.kind ∙ typed)))))
     tables attributes zip (none_found test attributes none)
 
-is_unmixed : (ms : Members) (policy : Policy) → IsRead ms policy → (tables : List Members) → HasTables (word_of Customer) ms tables → All (IsNotOfType 4) tables ⊎ All (IsNotOfType 5) tables
+is_unmixed : (ms : Members) (policy : Policy) → IsRead ms policy → (tables : List Members) → HasTables (dim_word Customer) ms tables → All (IsNotOfType 4) tables ⊎ All (IsNotOfType 5) tables
 is_unmixed ms policy read tables has =
     let zip = dimension_tables ms policy read Customer tables has in
     by_first (list_any (λ a. is_mini a.kind) policy.customer) refl zip
@@ -151,8 +151,8 @@ is_free ms policy read TooMany = λ dim tables has.
     let here_long = AllZip-long (IsAttribute dim) _ _ (dimension_tables ms policy read dim tables has) in
     rw (← read_long, here_long) at written.few
 is_free ms policy read NamedTwice = λ dim tables has. let (content, found, written) = read.attributes dim in
-    zip-pairs (IsAttribute dim) (DifferAt (codes "name")) (λ a b. a.name ≢ b.name) (names_differ dim) tables (attributes_of policy dim) (dimension_tables ms policy read dim tables has) written.once
-is_free ms policy read ProfileOutside = λ dim other tables has. zip-all (IsAttribute dim) IsOutsideProfile (is_outside dim other) tables (attributes_of policy dim) (dimension_tables ms policy read dim tables has)
+    zip-pairs (IsAttribute dim) (DifferAt (codes "name")) (λ a b. a.name ≢ b.name) (names_differ dim) tables (policy_attributes policy dim) (dimension_tables ms policy read dim tables has) written.once
+is_free ms policy read ProfileOutside = λ dim other tables has. zip-all (IsAttribute dim) IsOutsideProfile (is_outside dim other) tables (policy_attributes policy dim) (dimension_tables ms policy read dim tables has)
 is_free ms policy read ProfileMixed = is_unmixed ms policy read
 is_free ms policy read BadYears = (policy.years, read.writes, read.years)
 is_free ms policy read BadHoliday = holidays_are_good ms policy read
@@ -194,8 +194,8 @@ are_distinct years (Some content) holidays h = h.3
 -- and sound
 pub is_sound : (ms : Members) (policy : Policy) → IsRead ms policy → IsSound policy
 is_sound ms policy read = record {
-  attributes = λ dim. are_attributes dim (attributes_of policy dim) (read.attributes dim).0 (read.attributes dim).2;
-  outside = λ dim other. are_outside dim other (attributes_of policy dim) (read.attributes dim).0 (read.attributes dim).2;
+  attributes = λ dim. are_attributes dim (policy_attributes policy dim) (read.attributes dim).0 (read.attributes dim).2;
+  outside = λ dim other. are_outside dim other (policy_attributes policy dim) (read.attributes dim).0 (read.attributes dim).2;
   unmixed = read.unmixed;
   years = read.years;
   holidays = are_within policy.years (get_member (codes "holiday") ms) policy.holidays read.holidays;

@@ -8,11 +8,11 @@ use Rattle.wh_policy.specs.declared.attribute.AttributeType.TheVariants.{RetainO
 use Rattle.wh_policy.specs.declared.attribute.Dim.TheVariants.{Product, Store, Customer}
 use Rattle.wh_policy.specs.declared.fault.PolicyFault.TheVariants.{Missing, UnknownKey, BadName, BadType, TooMany, NamedTwice, ProfileOutside, ProfileMixed, BadYears, BadHoliday}
 use Rattle.wh_policy.specs.declared.policy.Years.{Years}
-use Rattle.wh_policy.specs.Attributes.{is_name, name_at, kind_at, attributes_at}
-use Rattle.wh_policy.specs.Holidays.{day_at, title_at, holidays_at}
+use Rattle.wh_policy.specs.Attributes.{is_name, name_of, kind_of, attributes_of}
+use Rattle.wh_policy.specs.Holidays.{day_of, title_of, holidays_of}
 use Rattle.wh_policy.specs.Names.{slot_from, fits}
-use Rattle.wh_policy.specs.Policy.{described, trial_policy, policy_in}
-use Rattle.wh_policy.specs.Years.{is_within, first_key, end_key, years_at}
+use Rattle.wh_policy.specs.Policy.{described, trial_policy, policy_of_table}
+use Rattle.wh_policy.specs.Years.{is_within, first_key, end_key, years_of}
 use Rattle.wh_policy.proofs.OnLiterals.{policy_on_literals}
 
 -- an array of tables, and what stands in one
@@ -112,63 +112,63 @@ a_space : is_name (codes "a b") ≡ false
 unfolding policy_on_literals
 a_space = refl
 
-name_of_a_string : name_at (string (codes "brand")) ≡ Ok (codes "brand")
+name_of_a_string : name_of (string (codes "brand")) ≡ Ok (codes "brand")
 unfolding policy_on_literals
 name_of_a_string = refl
 
-name_of_a_number : name_at (integer (pos 1)) ≡ Err BadName
+name_of_a_number : name_of (integer (pos 1)) ≡ Err BadName
 unfolding policy_on_literals
 name_of_a_number = refl
 
 -- types
 
-type_0 : kind_at (integer (pos 0)) ≡ Ok RetainOriginal
+type_0 : kind_of (integer (pos 0)) ≡ Ok RetainOriginal
 unfolding policy_on_literals
 type_0 = refl
 
-type_1 : kind_at (integer (pos 1)) ≡ Ok Overwrite
+type_1 : kind_of (integer (pos 1)) ≡ Ok Overwrite
 unfolding policy_on_literals
 type_1 = refl
 
-type_2 : kind_at (integer (pos 2)) ≡ Ok NewRow
+type_2 : kind_of (integer (pos 2)) ≡ Ok NewRow
 unfolding policy_on_literals
 type_2 = refl
 
-type_3 : kind_at (integer (pos 3)) ≡ Ok NewAttribute
+type_3 : kind_of (integer (pos 3)) ≡ Ok NewAttribute
 unfolding policy_on_literals
 type_3 = refl
 
-type_4 : kind_at (integer (pos 4)) ≡ Ok MiniDimension
+type_4 : kind_of (integer (pos 4)) ≡ Ok MiniDimension
 unfolding policy_on_literals
 type_4 = refl
 
-type_5 : kind_at (integer (pos 5)) ≡ Ok MiniDimensionOutrigger
+type_5 : kind_of (integer (pos 5)) ≡ Ok MiniDimensionOutrigger
 unfolding policy_on_literals
 type_5 = refl
 
-type_6 : kind_at (integer (pos 6)) ≡ Ok NewRowAndOverwrite
+type_6 : kind_of (integer (pos 6)) ≡ Ok NewRowAndOverwrite
 unfolding policy_on_literals
 type_6 = refl
 
-type_7 : kind_at (integer (pos 7)) ≡ Ok DualKeys
+type_7 : kind_of (integer (pos 7)) ≡ Ok DualKeys
 unfolding policy_on_literals
 type_7 = refl
 
-type_8 : kind_at (integer (pos 8)) ≡ Err BadType
+type_8 : kind_of (integer (pos 8)) ≡ Err BadType
 unfolding policy_on_literals
 type_8 = refl
 
-type_below_0 : kind_at (integer (negsuc 0)) ≡ Err BadType
+type_below_0 : kind_of (integer (negsuc 0)) ≡ Err BadType
 unfolding policy_on_literals
 type_below_0 = refl
 
-type_as_text : kind_at (string (codes "1")) ≡ Err BadType
+type_as_text : kind_of (string (codes "1")) ≡ Err BadType
 unfolding policy_on_literals
 type_as_text = refl
 
 -- years
 
-years_of_the_trial : years_at (integer (pos 2023)) (integer (pos 2026)) ≡ Ok (record { first = 2023; last = 2026 })
+years_of_the_trial : years_of (integer (pos 2023)) (integer (pos 2026)) ≡ Ok (record { first = 2023; last = 2026 })
 unfolding policy_on_literals
 years_of_the_trial = refl
 
@@ -184,246 +184,246 @@ first_of_years = refl
 past_years : end_key four_years ≡ 20261232
 past_years = refl
 
-thirty_years : years_at (integer (pos 2023)) (integer (pos 2052)) ≡ Ok (record { first = 2023; last = 2052 })
+thirty_years : years_of (integer (pos 2023)) (integer (pos 2052)) ≡ Ok (record { first = 2023; last = 2052 })
 unfolding policy_on_literals
 thirty_years = refl
 
-thirty_one_years : years_at (integer (pos 2023)) (integer (pos 2053)) ≡ Err BadYears
+thirty_one_years : years_of (integer (pos 2023)) (integer (pos 2053)) ≡ Err BadYears
 unfolding policy_on_literals
 thirty_one_years = refl
 
-one_year : years_at (integer (pos 2024)) (integer (pos 2024)) ≡ Ok (record { first = 2024; last = 2024 })
+one_year : years_of (integer (pos 2024)) (integer (pos 2024)) ≡ Ok (record { first = 2024; last = 2024 })
 unfolding policy_on_literals
 one_year = refl
 
-backwards : years_at (integer (pos 2024)) (integer (pos 2023)) ≡ Err BadYears
+backwards : years_of (integer (pos 2024)) (integer (pos 2023)) ≡ Err BadYears
 unfolding policy_on_literals
 backwards = refl
 
-first_years : years_at (integer (pos 1900)) (integer (pos 1929)) ≡ Ok (record { first = 1900; last = 1929 })
+first_years : years_of (integer (pos 1900)) (integer (pos 1929)) ≡ Ok (record { first = 1900; last = 1929 })
 unfolding policy_on_literals
 first_years = refl
 
-too_early : years_at (integer (pos 1899)) (integer (pos 1900)) ≡ Err BadYears
+too_early : years_of (integer (pos 1899)) (integer (pos 1900)) ≡ Err BadYears
 unfolding policy_on_literals
 too_early = refl
 
-last_years : years_at (integer (pos 2170)) (integer (pos 2199)) ≡ Ok (record { first = 2170; last = 2199 })
+last_years : years_of (integer (pos 2170)) (integer (pos 2199)) ≡ Ok (record { first = 2170; last = 2199 })
 unfolding policy_on_literals
 last_years = refl
 
-too_late : years_at (integer (pos 2199)) (integer (pos 2200)) ≡ Err BadYears
+too_late : years_of (integer (pos 2199)) (integer (pos 2200)) ≡ Err BadYears
 unfolding policy_on_literals
 too_late = refl
 
-below_zero : years_at (integer (negsuc 0)) (integer (pos 2024)) ≡ Err BadYears
+below_zero : years_of (integer (negsuc 0)) (integer (pos 2024)) ≡ Err BadYears
 unfolding policy_on_literals
 below_zero = refl
 
-first_as_text : years_at (string (codes "2023")) (integer (pos 2026)) ≡ Err BadYears
+first_as_text : years_of (string (codes "2023")) (integer (pos 2026)) ≡ Err BadYears
 unfolding policy_on_literals
 first_as_text = refl
 
-last_as_text : years_at (integer (pos 2023)) (string (codes "2026")) ≡ Err BadYears
+last_as_text : years_of (integer (pos 2023)) (string (codes "2026")) ≡ Err BadYears
 unfolding policy_on_literals
 last_as_text = refl
 
 -- holidays
 
-christmas : day_at four_years (string (codes "2024-12-25")) ≡ Ok 20241225
+christmas : day_of four_years (string (codes "2024-12-25")) ≡ Ok 20241225
 unfolding policy_on_literals
 christmas = refl
 
-leap_day : day_at four_years (string (codes "2024-02-29")) ≡ Ok 20240229
+leap_day : day_of four_years (string (codes "2024-02-29")) ≡ Ok 20240229
 unfolding policy_on_literals
 leap_day = refl
 
-no_leap_day : day_at four_years (string (codes "2023-02-29")) ≡ Err BadHoliday
+no_leap_day : day_of four_years (string (codes "2023-02-29")) ≡ Err BadHoliday
 unfolding policy_on_literals
 no_leap_day = refl
 
-one_digit : day_at four_years (string (codes "2024-2-1")) ≡ Err BadHoliday
+one_digit : day_of four_years (string (codes "2024-2-1")) ≡ Err BadHoliday
 unfolding policy_on_literals
 one_digit = refl
 
-first_of_the_years : day_at four_years (string (codes "2023-01-01")) ≡ Ok 20230101
+first_of_the_years : day_of four_years (string (codes "2023-01-01")) ≡ Ok 20230101
 unfolding policy_on_literals
 first_of_the_years = refl
 
-before_the_years : day_at four_years (string (codes "2022-12-31")) ≡ Err BadHoliday
+before_the_years : day_of four_years (string (codes "2022-12-31")) ≡ Err BadHoliday
 unfolding policy_on_literals
 before_the_years = refl
 
-last_of_the_years : day_at four_years (string (codes "2026-12-31")) ≡ Ok 20261231
+last_of_the_years : day_of four_years (string (codes "2026-12-31")) ≡ Ok 20261231
 unfolding policy_on_literals
 last_of_the_years = refl
 
-after_the_years : day_at four_years (string (codes "2027-01-01")) ≡ Err BadHoliday
+after_the_years : day_of four_years (string (codes "2027-01-01")) ≡ Err BadHoliday
 unfolding policy_on_literals
 after_the_years = refl
 
-day_as_number : day_at four_years (integer (pos 20241225)) ≡ Err BadHoliday
+day_as_number : day_of four_years (integer (pos 20241225)) ≡ Err BadHoliday
 unfolding policy_on_literals
 day_as_number = refl
 
-title : title_at (string (codes "Christmas Day")) ≡ Ok (codes "Christmas Day")
+title : title_of (string (codes "Christmas Day")) ≡ Ok (codes "Christmas Day")
 unfolding policy_on_literals
 title = refl
 
-empty_title : title_at (string []) ≡ Err BadHoliday
+empty_title : title_of (string []) ≡ Err BadHoliday
 unfolding policy_on_literals
 empty_title = refl
 
-title_in_parentheses : title_at (string (codes "(none)")) ≡ Err BadHoliday
+title_in_parentheses : title_of (string (codes "(none)")) ≡ Err BadHoliday
 unfolding policy_on_literals
 title_in_parentheses = refl
 
-longest_title : title_at (string (replicate 60 120)) ≡ Ok (replicate 60 120)
+longest_title : title_of (string (replicate 60 120)) ≡ Ok (replicate 60 120)
 unfolding policy_on_literals
 longest_title = refl
 
-too_long_a_title : title_at (string (replicate 61 120)) ≡ Err BadHoliday
+too_long_a_title : title_of (string (replicate 61 120)) ≡ Err BadHoliday
 unfolding policy_on_literals
 too_long_a_title = refl
 
-title_as_number : title_at (integer (pos 1)) ≡ Err BadHoliday
+title_as_number : title_of (integer (pos 1)) ≡ Err BadHoliday
 unfolding policy_on_literals
 title_as_number = refl
 
-two_holidays : holidays_at four_years (Some (list (holiday (codes "2024-12-25") (codes "Christmas Day") ∷ holiday (codes "2024-01-01") (codes "New Year") ∷ []))) ≡ Ok (record { day = 20241225; name = codes "Christmas Day" } ∷ record { day = 20240101; name = codes "New Year" } ∷ [])
+two_holidays : holidays_of four_years (Some (list (holiday (codes "2024-12-25") (codes "Christmas Day") ∷ holiday (codes "2024-01-01") (codes "New Year") ∷ []))) ≡ Ok (record { day = 20241225; name = codes "Christmas Day" } ∷ record { day = 20240101; name = codes "New Year" } ∷ [])
 unfolding policy_on_literals
 two_holidays = refl
 
-one_day_twice : holidays_at four_years (Some (list (holiday (codes "2024-12-25") (codes "Christmas Day") ∷ holiday (codes "2024-12-25") (codes "Xmas") ∷ []))) ≡ Err BadHoliday
+one_day_twice : holidays_of four_years (Some (list (holiday (codes "2024-12-25") (codes "Christmas Day") ∷ holiday (codes "2024-12-25") (codes "Xmas") ∷ []))) ≡ Err BadHoliday
 unfolding policy_on_literals
 one_day_twice = refl
 
-empty_array : holidays_at four_years (Some (list [])) ≡ Ok []
+empty_array : holidays_of four_years (Some (list [])) ≡ Ok []
 unfolding policy_on_literals
 empty_array = refl
 
-no_holidays : holidays_at four_years None ≡ Ok []
+no_holidays : holidays_of four_years None ≡ Ok []
 unfolding policy_on_literals
 no_holidays = refl
 
-holidays_as_text : holidays_at four_years (Some (string (codes "none"))) ≡ Err BadHoliday
+holidays_as_text : holidays_of four_years (Some (string (codes "none"))) ≡ Err BadHoliday
 unfolding policy_on_literals
 holidays_as_text = refl
 
-holiday_as_text : holidays_at four_years (Some (array (item (string (codes "2024-12-25")) no_items))) ≡ Err BadHoliday
+holiday_as_text : holidays_of four_years (Some (array (item (string (codes "2024-12-25")) no_items))) ≡ Err BadHoliday
 unfolding policy_on_literals
 holiday_as_text = refl
 
 -- an unknown key is told before a bad day
-holiday_with_more : holidays_at four_years (Some (list (member (codes "kind") (integer (pos 1)) (holiday (codes "2024-2-1") []) ∷ []))) ≡ Err UnknownKey
+holiday_with_more : holidays_of four_years (Some (list (member (codes "kind") (integer (pos 1)) (holiday (codes "2024-2-1") []) ∷ []))) ≡ Err UnknownKey
 unfolding policy_on_literals
 holiday_with_more = refl
 
 -- a missing key before a bad day
-holiday_without_a_name : holidays_at four_years (Some (list (member (codes "day") (string (codes "2024-2-1")) no_members ∷ []))) ≡ Err Missing
+holiday_without_a_name : holidays_of four_years (Some (list (member (codes "day") (string (codes "2024-2-1")) no_members ∷ []))) ≡ Err Missing
 unfolding policy_on_literals
 holiday_without_a_name = refl
 
-holiday_without_a_day : holidays_at four_years (Some (list (member (codes "name") (string (codes "Christmas Day")) no_members ∷ []))) ≡ Err Missing
+holiday_without_a_day : holidays_of four_years (Some (list (member (codes "name") (string (codes "Christmas Day")) no_members ∷ []))) ≡ Err Missing
 unfolding policy_on_literals
 holiday_without_a_day = refl
 
 -- attributes
 
-one_attribute : attributes_at Product (list (attribute (codes "brand") 2 ∷ [])) ≡ Ok (record { name = codes "brand"; kind = NewRow } ∷ [])
+one_attribute : attributes_of Product (list (attribute (codes "brand") 2 ∷ [])) ≡ Ok (record { name = codes "brand"; kind = NewRow } ∷ [])
 unfolding policy_on_literals
 one_attribute = refl
 
-two_attributes : attributes_at Store (list (attribute (codes "city") 2 ∷ attribute (codes "size") 0 ∷ [])) ≡ Ok (record { name = codes "city"; kind = NewRow } ∷ record { name = codes "size"; kind = RetainOriginal } ∷ [])
+two_attributes : attributes_of Store (list (attribute (codes "city") 2 ∷ attribute (codes "size") 0 ∷ [])) ≡ Ok (record { name = codes "city"; kind = NewRow } ∷ record { name = codes "size"; kind = RetainOriginal } ∷ [])
 unfolding policy_on_literals
 two_attributes = refl
 
-type_4_in_product : attributes_at Product (list (attribute (codes "brand") 4 ∷ [])) ≡ Err ProfileOutside
+type_4_in_product : attributes_of Product (list (attribute (codes "brand") 4 ∷ [])) ≡ Err ProfileOutside
 unfolding policy_on_literals
 type_4_in_product = refl
 
-type_5_in_product : attributes_at Product (list (attribute (codes "brand") 5 ∷ [])) ≡ Err ProfileOutside
+type_5_in_product : attributes_of Product (list (attribute (codes "brand") 5 ∷ [])) ≡ Err ProfileOutside
 unfolding policy_on_literals
 type_5_in_product = refl
 
-type_4_in_store : attributes_at Store (list (attribute (codes "brand") 4 ∷ [])) ≡ Err ProfileOutside
+type_4_in_store : attributes_of Store (list (attribute (codes "brand") 4 ∷ [])) ≡ Err ProfileOutside
 unfolding policy_on_literals
 type_4_in_store = refl
 
-type_5_in_store : attributes_at Store (list (attribute (codes "brand") 5 ∷ [])) ≡ Err ProfileOutside
+type_5_in_store : attributes_of Store (list (attribute (codes "brand") 5 ∷ [])) ≡ Err ProfileOutside
 unfolding policy_on_literals
 type_5_in_store = refl
 
-type_4_in_customer : attributes_at Customer (list (attribute (codes "brand") 4 ∷ [])) ≡ Ok (record { name = codes "brand"; kind = MiniDimension } ∷ [])
+type_4_in_customer : attributes_of Customer (list (attribute (codes "brand") 4 ∷ [])) ≡ Ok (record { name = codes "brand"; kind = MiniDimension } ∷ [])
 unfolding policy_on_literals
 type_4_in_customer = refl
 
-type_5_in_customer : attributes_at Customer (list (attribute (codes "brand") 5 ∷ [])) ≡ Ok (record { name = codes "brand"; kind = MiniDimensionOutrigger } ∷ [])
+type_5_in_customer : attributes_of Customer (list (attribute (codes "brand") 5 ∷ [])) ≡ Ok (record { name = codes "brand"; kind = MiniDimensionOutrigger } ∷ [])
 unfolding policy_on_literals
 type_5_in_customer = refl
 
-named_twice : attributes_at Product (list (attribute (codes "brand") 2 ∷ attribute (codes "brand") 1 ∷ [])) ≡ Err NamedTwice
+named_twice : attributes_of Product (list (attribute (codes "brand") 2 ∷ attribute (codes "brand") 1 ∷ [])) ≡ Err NamedTwice
 unfolding policy_on_literals
 named_twice = refl
 
-no_attribute : attributes_at Product (list []) ≡ Err Missing
+no_attribute : attributes_of Product (list []) ≡ Err Missing
 unfolding policy_on_literals
 no_attribute = refl
 
-six_attributes : attributes_at Product (list (tables six_names)) ≡ Ok (described_all six_names)
+six_attributes : attributes_of Product (list (tables six_names)) ≡ Ok (described_all six_names)
 unfolding policy_on_literals
 six_attributes = refl
 
 -- too many are told before a bad type
-seven_attributes : attributes_at Product (list (attribute (codes "g") 9 ∷ tables six_names)) ≡ Err TooMany
+seven_attributes : attributes_of Product (list (attribute (codes "g") 9 ∷ tables six_names)) ≡ Err TooMany
 unfolding policy_on_literals
 seven_attributes = refl
 
-no_array : attributes_at Product (integer (pos 1)) ≡ Err Missing
+no_array : attributes_of Product (integer (pos 1)) ≡ Err Missing
 unfolding policy_on_literals
 no_array = refl
 
-a_table_for_an_array : attributes_at Product (table (attribute (codes "brand") 2)) ≡ Err Missing
+a_table_for_an_array : attributes_of Product (table (attribute (codes "brand") 2)) ≡ Err Missing
 unfolding policy_on_literals
 a_table_for_an_array = refl
 
 -- and is told before the faults of the tables
-an_element_that_is_no_table : attributes_at Product (array (item (table (attribute (codes "Brand") 9)) (item (integer (pos 1)) no_items))) ≡ Err Missing
+an_element_that_is_no_table : attributes_of Product (array (item (table (attribute (codes "Brand") 9)) (item (integer (pos 1)) no_items))) ≡ Err Missing
 unfolding policy_on_literals
 an_element_that_is_no_table = refl
 
 -- an unknown key before a missing one
-a_key_more : attributes_at Product (list (member (codes "note") (integer (pos 1)) (member (codes "type") (integer (pos 9)) no_members) ∷ [])) ≡ Err UnknownKey
+a_key_more : attributes_of Product (list (member (codes "note") (integer (pos 1)) (member (codes "type") (integer (pos 9)) no_members) ∷ [])) ≡ Err UnknownKey
 unfolding policy_on_literals
 a_key_more = refl
 
 -- a missing key before a bad type
-without_a_name : attributes_at Product (list (member (codes "type") (integer (pos 9)) no_members ∷ [])) ≡ Err Missing
+without_a_name : attributes_of Product (list (member (codes "type") (integer (pos 9)) no_members ∷ [])) ≡ Err Missing
 unfolding policy_on_literals
 without_a_name = refl
 
 -- and before a bad name
-without_a_type : attributes_at Product (list (member (codes "name") (string (codes "Brand")) no_members ∷ [])) ≡ Err Missing
+without_a_type : attributes_of Product (list (member (codes "name") (string (codes "Brand")) no_members ∷ [])) ≡ Err Missing
 unfolding policy_on_literals
 without_a_type = refl
 
 -- a bad name before a bad type
-bad_name_and_type : attributes_at Product (list (attribute (codes "Brand") 9 ∷ [])) ≡ Err BadName
+bad_name_and_type : attributes_of Product (list (attribute (codes "Brand") 9 ∷ [])) ≡ Err BadName
 unfolding policy_on_literals
 bad_name_and_type = refl
 
 -- a bad type before a name that was there
-bad_type : attributes_at Product (list (attribute (codes "brand") 2 ∷ attribute (codes "brand") 9 ∷ [])) ≡ Err BadType
+bad_type : attributes_of Product (list (attribute (codes "brand") 2 ∷ attribute (codes "brand") 9 ∷ [])) ≡ Err BadType
 unfolding policy_on_literals
 bad_type = refl
 
 -- and so is type 4
-profile_and_named_twice : attributes_at Product (list (attribute (codes "brand") 2 ∷ attribute (codes "brand") 4 ∷ [])) ≡ Err ProfileOutside
+profile_and_named_twice : attributes_of Product (list (attribute (codes "brand") 2 ∷ attribute (codes "brand") 4 ∷ [])) ≡ Err ProfileOutside
 unfolding policy_on_literals
 profile_and_named_twice = refl
 
 -- the tables go one after the other
-first_table_first : attributes_at Product (list (attribute (codes "brand") 8 ∷ attribute (codes "Brand") 1 ∷ [])) ≡ Err BadType
+first_table_first : attributes_of Product (list (attribute (codes "brand") 8 ∷ attribute (codes "Brand") 1 ∷ [])) ≡ Err BadType
 unfolding policy_on_literals
 first_table_first = refl
 
@@ -489,53 +489,53 @@ holidays_may_change = refl
 
 -- whole files, as tables
 
-a_file : policy_in small ≡ Ok (record trial_policy { holidays = record { day = 20241225; name = codes "Christmas Day" } ∷ [] })
+a_file : policy_of_table small ≡ Ok (record trial_policy { holidays = record { day = 20241225; name = codes "Christmas Day" } ∷ [] })
 unfolding policy_on_literals
 a_file = refl
 
 -- an unknown key before the missing ones
-a_key_more_at_the_top : policy_in (member (codes "a") (integer (pos 1)) no_members) ≡ Err UnknownKey
+a_key_more_at_the_top : policy_of_table (member (codes "a") (integer (pos 1)) no_members) ≡ Err UnknownKey
 unfolding policy_on_literals
 a_key_more_at_the_top = refl
 
-an_empty_file : policy_in no_members ≡ Err Missing
+an_empty_file : policy_of_table no_members ≡ Err Missing
 unfolding policy_on_literals
 an_empty_file = refl
 
 -- a missing key before a bad dimension
-a_year_missing : policy_in (member (codes "product") (integer (pos 8)) (member (codes "last_year") (integer (pos 2026)) dimensions)) ≡ Err Missing
+a_year_missing : policy_of_table (member (codes "product") (integer (pos 8)) (member (codes "last_year") (integer (pos 2026)) dimensions)) ≡ Err Missing
 unfolding policy_on_literals
 a_year_missing = refl
 
 -- the product's faults before the store's
-product_before_store : policy_in (member (codes "store") (integer (pos 1)) (member (codes "product") (list (attribute (codes "Brand") 1 ∷ [])) small)) ≡ Err BadName
+product_before_store : policy_of_table (member (codes "store") (integer (pos 1)) (member (codes "product") (list (attribute (codes "Brand") 1 ∷ [])) small)) ≡ Err BadName
 unfolding policy_on_literals
 product_before_store = refl
 
 -- the store's before the customer's
-store_before_customer : policy_in (member (codes "customer") (integer (pos 1)) (member (codes "store") (list (attribute (codes "city") 8 ∷ [])) small)) ≡ Err BadType
+store_before_customer : policy_of_table (member (codes "customer") (integer (pos 1)) (member (codes "store") (list (attribute (codes "city") 8 ∷ [])) small)) ≡ Err BadType
 unfolding policy_on_literals
 store_before_customer = refl
 
 -- the customer's before bad years
-customer_before_years : policy_in (member (codes "customer") (list (attribute (codes "tier") 8 ∷ [])) (member (codes "last_year") (integer (pos 2053)) small)) ≡ Err BadType
+customer_before_years : policy_of_table (member (codes "customer") (list (attribute (codes "tier") 8 ∷ [])) (member (codes "last_year") (integer (pos 2053)) small)) ≡ Err BadType
 unfolding policy_on_literals
 customer_before_years = refl
 
 -- types 4 and 5 side by side before bad years, but after a name twice
-mixed_before_years : policy_in (member (codes "customer") (list (attribute (codes "age_band") 4 ∷ attribute (codes "spend_band") 5 ∷ [])) (member (codes "last_year") (integer (pos 2053)) small)) ≡ Err ProfileMixed
+mixed_before_years : policy_of_table (member (codes "customer") (list (attribute (codes "age_band") 4 ∷ attribute (codes "spend_band") 5 ∷ [])) (member (codes "last_year") (integer (pos 2053)) small)) ≡ Err ProfileMixed
 unfolding policy_on_literals
 mixed_before_years = refl
 
-named_twice_before_mixed : policy_in (member (codes "customer") (list (attribute (codes "age_band") 5 ∷ attribute (codes "age_band") 4 ∷ [])) small) ≡ Err NamedTwice
+named_twice_before_mixed : policy_of_table (member (codes "customer") (list (attribute (codes "age_band") 5 ∷ attribute (codes "age_band") 4 ∷ [])) small) ≡ Err NamedTwice
 unfolding policy_on_literals
 named_twice_before_mixed = refl
 
 -- bad years before bad holidays
-years_before_holidays : policy_in (member (codes "holiday") (integer (pos 1)) (member (codes "last_year") (integer (pos 2053)) small)) ≡ Err BadYears
+years_before_holidays : policy_of_table (member (codes "holiday") (integer (pos 1)) (member (codes "last_year") (integer (pos 2053)) small)) ≡ Err BadYears
 unfolding policy_on_literals
 years_before_holidays = refl
 
-bad_holidays : policy_in (member (codes "holiday") (integer (pos 1)) small) ≡ Err BadHoliday
+bad_holidays : policy_of_table (member (codes "holiday") (integer (pos 1)) small) ≡ Err BadHoliday
 unfolding policy_on_literals
 bad_holidays = refl

@@ -5,7 +5,7 @@ use Rattle.toml.proofs.OnLiterals.{toml_on_literals}
 use Rattle.wh_policy.specs.declared.attribute.AttributeType.TheVariants.{RetainOriginal, Overwrite, NewRow, NewAttribute, NewRowAndOverwrite, DualKeys}
 use Rattle.wh_policy.specs.declared.fault.PolicyFault.TheVariants.{NotToml, Missing, BadType, ProfileOutside, BadYears, BadHoliday}
 use Rattle.wh_policy.specs.declared.policy.Policy.{Policy}
-use Rattle.wh_policy.specs.Policy.{described, policy_at}
+use Rattle.wh_policy.specs.Policy.{described, read_policy}
 use Rattle.wh_policy.proofs.OnLiterals.{policy_on_literals}
 
 abbrev lines : List (List ℕ) → List ℕ
@@ -36,39 +36,39 @@ flat last = record {
   holidays = record { day = 20241225; name = codes "Christmas Day" } ∷ [];
 }
 
-flat_is_read : policy_at (flat_with (codes "2026") (codes "1") (codes "2024-12-25")) ≡ Ok (flat 2026)
+flat_is_read : read_policy (flat_with (codes "2026") (codes "1") (codes "2024-12-25")) ≡ Ok (flat 2026)
 unfolding policy_on_literals toml_on_literals
 flat_is_read = refl
 
-thirty_years : policy_at (flat_with (codes "2052") (codes "1") (codes "2024-12-25")) ≡ Ok (flat 2052)
+thirty_years : read_policy (flat_with (codes "2052") (codes "1") (codes "2024-12-25")) ≡ Ok (flat 2052)
 unfolding policy_on_literals toml_on_literals
 thirty_years = refl
 
-thirty_one_years : policy_at (flat_with (codes "2053") (codes "1") (codes "2024-12-25")) ≡ Err BadYears
+thirty_one_years : read_policy (flat_with (codes "2053") (codes "1") (codes "2024-12-25")) ≡ Err BadYears
 unfolding policy_on_literals toml_on_literals
 thirty_one_years = refl
 
-type_8 : policy_at (flat_with (codes "2026") (codes "8") (codes "2024-12-25")) ≡ Err BadType
+type_8 : read_policy (flat_with (codes "2026") (codes "8") (codes "2024-12-25")) ≡ Err BadType
 unfolding policy_on_literals toml_on_literals
 type_8 = refl
 
-type_4_of_a_product : policy_at (flat_with (codes "2026") (codes "4") (codes "2024-12-25")) ≡ Err ProfileOutside
+type_4_of_a_product : read_policy (flat_with (codes "2026") (codes "4") (codes "2024-12-25")) ≡ Err ProfileOutside
 unfolding policy_on_literals toml_on_literals
 type_4_of_a_product = refl
 
-no_leap_day : policy_at (flat_with (codes "2026") (codes "1") (codes "2023-02-29")) ≡ Err BadHoliday
+no_leap_day : read_policy (flat_with (codes "2026") (codes "1") (codes "2023-02-29")) ≡ Err BadHoliday
 unfolding policy_on_literals toml_on_literals
 no_leap_day = refl
 
-cut_in_a_string : policy_at (codes "first_year = 2023\nlast_year = 2026\n[[product]]\nname = \"descr") ≡ Err NotToml
+cut_in_a_string : read_policy (codes "first_year = 2023\nlast_year = 2026\n[[product]]\nname = \"descr") ≡ Err NotToml
 unfolding policy_on_literals toml_on_literals
 cut_in_a_string = refl
 
-no_bytes : policy_at [] ≡ Err Missing
+no_bytes : read_policy [] ≡ Err Missing
 unfolding policy_on_literals toml_on_literals
 no_bytes = refl
 
 -- é in Latin-1, in a comment
-no_utf8 : policy_at (35 ∷ 233 ∷ 10 ∷ []) ≡ Err NotToml
+no_utf8 : read_policy (35 ∷ 233 ∷ 10 ∷ []) ≡ Err NotToml
 unfolding policy_on_literals toml_on_literals
 no_utf8 = refl

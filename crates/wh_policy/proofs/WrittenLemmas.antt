@@ -18,7 +18,7 @@ use Rattle.toml.specs.Data.{Data, string, integer, array, table, Items, no_items
 use Rattle.toml.specs.View.{items_of}
 use Rattle.wh_policy.specs.declared.fault.PolicyFault.{PolicyFault}
 use Rattle.wh_policy.specs.declared.fault.PolicyFault.TheVariants.{Missing}
-use Rattle.wh_policy.specs.Document.{has_only, required, tables_in, tables_at, each_after}
+use Rattle.wh_policy.specs.Document.{has_only, required, tables_in, tables_of, each_after}
 use Rattle.wh_policy.specs.Written.{HasKey, HasOnly, IsArrayOf}
 use Rattle.wh_policy.proofs.ReadingLemmas.{Reader}
 use Rattle.wh_policy.proofs.Judged.{Judged, judged-ok, judged-bind, judged-more, judged-or}
@@ -110,10 +110,10 @@ tables_in-judged fault (item content items) fails =
     (tables_in-judged fault items (λ none. fails (no_tables content items none)))
     (λ ts same. judged-ok (t ∷ ts) (rw (is, same) refl)))
 
-pub tables_at-judged : {bad : PolicyFault → Type 0} (fault : PolicyFault) (content : Data) → (((tables : List Members) → ¬ IsArrayOf tables content) → bad fault)
-    → Judged (λ tables. IsArrayOf tables content) bad (tables_at fault content)
-unfolding tables_at
-tables_at-judged fault content fails =
+pub tables_of-judged : {bad : PolicyFault → Type 0} (fault : PolicyFault) (content : Data) → (((tables : List Members) → ¬ IsArrayOf tables content) → bad fault)
+    → Judged (λ tables. IsArrayOf tables content) bad (tables_of fault content)
+unfolding tables_of
+tables_of-judged fault content fails =
     judged-bind {mid = λ items. content ≡ array items} _ _
     (judged-or fault (as_array content) (λ none. fails (λ ts is. none-some _ (sym none ∙ ap as_array is))) (λ items e. as_array-is content items e))
     (λ items is. judged-more {mid = λ ts. items ≡ items_of (map table ts)} (tables_in fault items)

@@ -11,10 +11,10 @@ use Rattle.wh_policy.specs.declared.attribute.Dim.{Dim}
 use Rattle.wh_policy.specs.declared.attribute.Dim.TheVariants.{Product, Store, Customer}
 use Rattle.wh_policy.specs.declared.policy.Policy.{Policy}
 use Rattle.wh_policy.specs.declared.policy.Years.{Years}
-use Rattle.wh_policy.specs.Policy.{attributes_of}
-use Rattle.wh_policy.specs.Types.{type_number, type_of_number}
+use Rattle.wh_policy.specs.Policy.{policy_attributes}
+use Rattle.wh_policy.specs.Types.{attribute_type_number, attribute_type_of_number}
 use Rattle.wh_policy.specs.Written.{WritesYears, WritesAttribute, WritesHoliday, WritesHolidays, Writes}
-use Rattle.wh_policy.proofs.TypeLemmas.{type_of_number-again}
+use Rattle.wh_policy.proofs.TypeLemmas.{attribute_type_of_number-again}
 use Rattle.wh_policy.proofs.WrittenLemmas.{string_same, integer_same, arrays_same}
 
 -- a text is that of one day
@@ -45,8 +45,8 @@ zip-once R f (x ∷ xs) [] zs h i = absurd h
 zip-once R f (x ∷ xs) (y ∷ ys) [] h i = absurd i
 zip-once R f (x ∷ xs) (y ∷ ys) (z ∷ zs) h i = rw (f x y z h.0 i.0, zip-once R f xs ys zs h.1 i.1) refl
 
-type_same : (k l : AttributeType) → type_number k ≡ type_number l → k ≡ l
-type_same k l e = same_Some _ _ (sym (type_of_number-again k) ∙ ap (λ (n : ℕ). type_of_number (pos n)) e ∙ type_of_number-again l)
+type_same : (k l : AttributeType) → attribute_type_number k ≡ attribute_type_number l → k ≡ l
+type_same k l e = same_Some _ _ (sym (attribute_type_of_number-again k) ∙ ap (λ (n : ℕ). attribute_type_of_number (pos n)) e ∙ attribute_type_of_number-again l)
 
 attribute_once : (t : Members) (a b : Attribute) → WritesAttribute t a → WritesAttribute t b → a ≡ b
 attribute_once t a b x y =
@@ -69,7 +69,7 @@ years_once ms y z a b =
     let both : record { first = y.first; last = y.last } ≡ record { first = z.first; last = z.last } = rw (first, last) refl in
     both
 
-dimension_once : (ms : Members) (p q : Policy) → Writes ms p → Writes ms q → (dim : Dim) → attributes_of p dim ≡ attributes_of q dim
+dimension_once : (ms : Members) (p q : Policy) → Writes ms p → Writes ms q → (dim : Dim) → policy_attributes p dim ≡ policy_attributes q dim
 dimension_once ms p q x y dim =
     let (ts, has, zip) = x.attributes dim in
     let (us, has', zip') = y.attributes dim in

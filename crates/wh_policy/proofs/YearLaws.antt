@@ -7,7 +7,7 @@ use Rattle.wh_policy.specs.declared.fault.PolicyFault.{PolicyFault}
 use Rattle.wh_policy.specs.declared.fault.PolicyFault.TheVariants.{BadYears}
 use Rattle.wh_policy.specs.declared.policy.Years.{Years}
 use Rattle.wh_policy.specs.Written.{AreYears}
-use Rattle.wh_policy.specs.Years.{found_years, years_at}
+use Rattle.wh_policy.specs.Years.{found_years, years_of}
 use Rattle.wh_policy.proofs.Judged.{Judged, judged-ok, judged-more, judged-unless}
 use Rattle.wh_policy.proofs.WrittenLemmas.{as_integer-is}
 
@@ -38,9 +38,9 @@ found_years-judged (Some (pos first)) None fails = record { verdict = fails (λ 
 found_years-judged (Some (negsuc first)) b fails = record { verdict = fails (λ years first_is last_is are. absurd cc) }
 found_years-judged None b fails = record { verdict = fails (λ years first_is last_is are. none-some _ first_is) }
 
-pub years_at-judged : {bad : PolicyFault → Type 0} (first last : Data) → (((years : Years) → first ≡ integer (pos years.first) → last ≡ integer (pos years.last) → ¬ AreYears years) → bad BadYears)
-    → Judged (λ years. (first ≡ integer (pos years.first)) × (last ≡ integer (pos years.last)) × AreYears years) bad (years_at first last)
-unfolding years_at
-years_at-judged first last fails = judged-more _
+pub years_of-judged : {bad : PolicyFault → Type 0} (first last : Data) → (((years : Years) → first ≡ integer (pos years.first) → last ≡ integer (pos years.last) → ¬ AreYears years) → bad BadYears)
+    → Judged (λ years. (first ≡ integer (pos years.first)) × (last ≡ integer (pos years.last)) × AreYears years) bad (years_of first last)
+unfolding years_of
+years_of-judged first last fails = judged-more _
     (found_years-judged (as_integer first) (as_integer last) (λ none. fails (λ years first_is last_is. none years (ap as_integer first_is) (ap as_integer last_is))))
     (λ years p. (as_integer-is first _ p.0, as_integer-is last _ p.1, p.2))

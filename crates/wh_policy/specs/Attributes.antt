@@ -11,8 +11,8 @@ use Rattle.wh_policy.specs.declared.attribute.Attribute.{Attribute}
 use Rattle.wh_policy.specs.declared.attribute.AttributeType.{AttributeType}
 use Rattle.wh_policy.specs.declared.attribute.Dim.{Dim}
 use Rattle.wh_policy.specs.declared.attribute.Dim.TheVariants.{Product, Store, Customer}
-use Rattle.wh_policy.specs.Document.{has_only, required, tables_at, each_after}
-use Rattle.wh_policy.specs.Types.{is_profile, is_mini, is_outrigger, type_of_number}
+use Rattle.wh_policy.specs.Document.{has_only, required, tables_of, each_after}
+use Rattle.wh_policy.specs.Types.{is_profile, is_mini, is_outrigger, attribute_type_of_number}
 
 -- a lower-case letter, a digit or '_'
 abbrev pub is_name_byte : ℕ → Bool
@@ -33,12 +33,12 @@ found_name None = Err BadName
 found_name (Some name) = unless_fault (is_name name) BadName (Ok name)
 
 -- the name that a value writes
-unfoldable pub name_at : Data → Result (List ℕ) PolicyFault
-name_at content = found_name (as_str content)
+unfoldable pub name_of : Data → Result (List ℕ) PolicyFault
+name_of content = found_name (as_str content)
 
 -- the type whose number a value writes
-unfoldable pub kind_at : Data → Result AttributeType PolicyFault
-kind_at content = ok_or (option_and_then type_of_number (as_integer content)) BadType
+unfoldable pub kind_of : Data → Result AttributeType PolicyFault
+kind_of content = ok_or (option_and_then attribute_type_of_number (as_integer content)) BadType
 
 -- which dimensions take attributes of the profile, of types 4 and 5: only customer
 abbrev pub takes_profile : Dim → Bool
@@ -59,18 +59,18 @@ abbrev pub is_named : List ℕ → Attribute → Bool
 is_named name attribute = bytes_eq attribute.name name
 
 -- the attribute that a table writes, after those of the earlier tables
-unfoldable pub attribute_at : Dim → List Attribute → Members → Result Attribute PolicyFault
-attribute_at dim earlier members = unless_fault (has_only attribute_keys members) UnknownKey (do
+unfoldable pub attribute_of : Dim → List Attribute → Members → Result Attribute PolicyFault
+attribute_of dim earlier members = unless_fault (has_only attribute_keys members) UnknownKey (do
   name_content ← required (codes "name") members
   kind_content ← required (codes "type") members
-  name ← name_at name_content
-  kind ← kind_at kind_content
+  name ← name_of name_content
+  kind ← kind_of kind_content
   unless_fault (takes_profile dim || not (is_profile kind)) ProfileOutside (
       unless_fault (not (list_any (is_named name) earlier)) NamedTwice (Ok (record { name = name; kind = kind }))))
 
 -- the attributes of a dimension: one to six
-unfoldable pub attributes_at : Dim → Data → Result (List Attribute) PolicyFault
-attributes_at dim content = do
-  tables ← tables_at Missing content
+unfoldable pub attributes_of : Dim → Data → Result (List Attribute) PolicyFault
+attributes_of dim content = do
+  tables ← tables_of Missing content
   unless_fault (not (length tables == 0)) Missing (
-      unless_fault (nat_le (length tables) 6) TooMany (each_after (attribute_at dim) [] tables))
+      unless_fault (nat_le (length tables) 6) TooMany (each_after (attribute_of dim) [] tables))

@@ -9,8 +9,8 @@ use Rattle.wh_policy.specs.declared.fault.PolicyFault.{PolicyFault}
 use Rattle.wh_policy.specs.declared.fault.PolicyFault.TheVariants.{NotToml, Missing}
 
 -- the table that the bytes write, up to 65,536 of them
-unfoldable pub document_at : List ℕ → Result Members PolicyFault
-document_at bytes =
+unfoldable pub document_of : List ℕ → Result Members PolicyFault
+document_of bytes =
     if nat_lt 65536 (length bytes) then Err NotToml
     else if not (is_utf8 bytes) then Err NotToml
     else ok_or (parse_document bytes) NotToml
@@ -33,8 +33,8 @@ tables_in fault (item content items) = do
   Ok (first ∷ others)
 
 -- the tables of an array
-unfoldable pub tables_at : PolicyFault → Data → Result (List Members) PolicyFault
-tables_at fault content = do
+unfoldable pub tables_of : PolicyFault → Data → Result (List Members) PolicyFault
+tables_of fault content = do
   items ← ok_or (as_array content) fault
   tables_in fault items
 

@@ -10,7 +10,7 @@ use Rattle.wh_day.specs.declared.holiday.Holiday.{Holiday}
 use Rattle.wh_policy.specs.declared.fault.PolicyFault.{PolicyFault}
 use Rattle.wh_policy.specs.declared.fault.PolicyFault.TheVariants.{UnknownKey, BadHoliday}
 use Rattle.wh_policy.specs.declared.policy.Years.{Years}
-use Rattle.wh_policy.specs.Document.{has_only, required, tables_at, each_after}
+use Rattle.wh_policy.specs.Document.{has_only, required, tables_of, each_after}
 use Rattle.wh_policy.specs.Years.{is_within}
 
 -- a day that lies in the years
@@ -19,8 +19,8 @@ found_day years None = Err BadHoliday
 found_day years (Some day) = unless_fault (is_within years day) BadHoliday (Ok day)
 
 -- the day within the years that a value writes
-unfoldable pub day_at : Years → Data → Result ℕ PolicyFault
-day_at years content = found_day years (option_and_then read_day (as_str content))
+unfoldable pub day_of : Years → Data → Result ℕ PolicyFault
+day_of years content = found_day years (option_and_then read_day (as_str content))
 
 -- a value with at least one byte
 abbrev pub read_named : List ℕ → Option (List ℕ)
@@ -28,25 +28,25 @@ read_named [] = None
 read_named (first ∷ rest) = read_value (first ∷ rest)
 
 -- the name of a holiday that a value writes
-unfoldable pub title_at : Data → Result (List ℕ) PolicyFault
-title_at content = ok_or (option_and_then read_named (as_str content)) BadHoliday
+unfoldable pub title_of : Data → Result (List ℕ) PolicyFault
+title_of content = ok_or (option_and_then read_named (as_str content)) BadHoliday
 
 -- the keys of a holiday's table
 abbrev pub holiday_keys : List (List ℕ)
 holiday_keys = codes "day" ∷ codes "name" ∷ []
 
 -- the holiday that a table writes, after those of the earlier tables
-unfoldable pub holiday_at : Years → List Holiday → Members → Result Holiday PolicyFault
-holiday_at years earlier members = unless_fault (has_only holiday_keys members) UnknownKey (do
+unfoldable pub holiday_of : Years → List Holiday → Members → Result Holiday PolicyFault
+holiday_of years earlier members = unless_fault (has_only holiday_keys members) UnknownKey (do
   day_content ← required (codes "day") members
   name_content ← required (codes "name") members
-  day ← day_at years day_content
-  name ← title_at name_content
+  day ← day_of years day_content
+  name ← title_of name_content
   unless_fault (not (list_any (is_on day) earlier)) BadHoliday (Ok (record { day = day; name = name })))
 
 -- the holidays of the years: none where the key is absent
-unfoldable pub holidays_at : Years → Option Data → Result (List Holiday) PolicyFault
-holidays_at years None = Ok []
-holidays_at years (Some content) = do
-  tables ← tables_at BadHoliday content
-  each_after (holiday_at years) [] tables
+unfoldable pub holidays_of : Years → Option Data → Result (List Holiday) PolicyFault
+holidays_of years None = Ok []
+holidays_of years (Some content) = do
+  tables ← tables_of BadHoliday content
+  each_after (holiday_of years) [] tables

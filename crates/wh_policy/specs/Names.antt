@@ -4,13 +4,13 @@ use Rattle.std.specs.Str.{bytes_eq}
 use Rattle.wh_policy.specs.declared.attribute.Attribute.{Attribute}
 use Rattle.wh_policy.specs.declared.policy.Policy.{Policy}
 use Rattle.wh_policy.specs.Attributes.{is_named}
-use Rattle.wh_policy.specs.Types.{type_number}
+use Rattle.wh_policy.specs.Types.{attribute_type_number}
 
 -- the slot and the number of the type of the attribute with the name, where the first of the attributes has this slot
 unfoldable pub slot_from : ℕ → List ℕ → List Attribute → Option (ℕ × ℕ)
 slot_from slot name [] = None
 slot_from slot name (attribute ∷ attributes) =
-    if is_named name attribute then Some (slot, type_number attribute.kind) else slot_from (slot + 1) name attributes
+    if is_named name attribute then Some (slot, attribute_type_number attribute.kind) else slot_from (slot + 1) name attributes
 
 -- the old names stand in the same slots, and more may follow
 abbrev pub are_kept : List Attribute → List Attribute → Bool

@@ -5,15 +5,15 @@ use Rattle.wh_policy.specs.declared.attribute.AttributeType.{AttributeType}
 use Rattle.wh_policy.specs.declared.attribute.AttributeType.TheVariants.{RetainOriginal, Overwrite, NewRow, NewAttribute, MiniDimension, MiniDimensionOutrigger, NewRowAndOverwrite, DualKeys}
 
 -- the number of a type
-abbrev pub type_number : AttributeType → ℕ
-type_number RetainOriginal = 0
-type_number Overwrite = 1
-type_number NewRow = 2
-type_number NewAttribute = 3
-type_number MiniDimension = 4
-type_number MiniDimensionOutrigger = 5
-type_number NewRowAndOverwrite = 6
-type_number DualKeys = 7
+abbrev pub attribute_type_number : AttributeType → ℕ
+attribute_type_number RetainOriginal = 0
+attribute_type_number Overwrite = 1
+attribute_type_number NewRow = 2
+attribute_type_number NewAttribute = 3
+attribute_type_number MiniDimension = 4
+attribute_type_number MiniDimensionOutrigger = 5
+attribute_type_number NewRowAndOverwrite = 6
+attribute_type_number DualKeys = 7
 
 -- all types, in the order of their numbers
 abbrev pub every_type : List AttributeType
@@ -21,9 +21,9 @@ every_type =
     RetainOriginal ∷ Overwrite ∷ NewRow ∷ NewAttribute ∷ MiniDimension ∷ MiniDimensionOutrigger ∷ NewRowAndOverwrite ∷ DualKeys ∷ []
 
 -- the type that has this number, if one has
-abbrev pub type_of_number : ℤ → Option AttributeType
-type_of_number (pos n) = find (λ kind. type_number kind == n) every_type
-type_of_number (negsuc n) = None
+abbrev pub attribute_type_of_number : ℤ → Option AttributeType
+attribute_type_of_number (pos n) = find (λ kind. attribute_type_number kind == n) every_type
+attribute_type_of_number (negsuc n) = None
 
 -- whether a change of the attribute begins a row: types 2, 6 and 7
 abbrev pub is_tracked : AttributeType → Bool

@@ -18,9 +18,9 @@ use Rattle.wh_policy.specs.declared.policy.Policy.{Policy}
 use Rattle.wh_policy.specs.declared.policy.Years.{Years}
 use Rattle.wh_policy.specs.Attributes.{attribute_keys, is_name, is_mixed}
 use Rattle.wh_policy.specs.Holidays.{holiday_keys}
-use Rattle.wh_policy.specs.Policy.{attributes_of, top_keys}
-use Rattle.wh_policy.specs.Types.{is_profile, type_number}
-use Rattle.wh_policy.specs.Words.{word_of}
+use Rattle.wh_policy.specs.Policy.{policy_attributes, top_keys}
+use Rattle.wh_policy.specs.Types.{is_profile, attribute_type_number}
+use Rattle.wh_policy.specs.Words.{dim_word}
 
 -- up to 65,536 bytes of UTF-8 that are the TOML text of this table
 pub record IsDocument (bytes : List ℕ) (members : Members) : Type 0 where
@@ -50,7 +50,7 @@ HasTables key members tables = get_member key members ≡ Some (array (items_of 
 
 -- P holds of the tables of each dimension, whose key is its word
 abbrev pub EachDimension : (List Members → Type 0) → Members → Type 0
-EachDimension P members = (dim : Dim) (tables : List Members) → HasTables (word_of dim) members tables → P tables
+EachDimension P members = (dim : Dim) (tables : List Members) → HasTables (dim_word dim) members tables → P tables
 
 -- P holds of each attribute's table
 abbrev pub EachAttribute : (Members → Type 0) → Members → Type 0
@@ -68,12 +68,12 @@ pub record KeysAreKnown (members : Members) : Type 0 where
 
 -- the keys that a policy file has to have
 abbrev pub needed_keys : List (List ℕ)
-needed_keys = codes "first_year" ∷ codes "last_year" ∷ word_of Product ∷ word_of Store ∷ word_of Customer ∷ []
+needed_keys = codes "first_year" ∷ codes "last_year" ∷ dim_word Product ∷ dim_word Store ∷ dim_word Customer ∷ []
 
 -- nothing is left out: each dimension is an array of one table or more
 pub record IsWhole (members : Members) : Type 0 where
   pub top : HasAll needed_keys members
-  pub dimensions : (dim : Dim) → (tables : List Members) × HasTables (word_of dim) members tables × (1 ≤ length tables)
+  pub dimensions : (dim : Dim) → (tables : List Members) × HasTables (dim_word dim) members tables × (1 ≤ length tables)
   pub attributes : EachAttribute (HasAll attribute_keys) members
   pub holidays : EachHoliday (HasAll holiday_keys) members
 
@@ -142,15 +142,15 @@ IsFreeOf BadName members = EachAttribute (At (codes "name") IsNameData) members
 IsFreeOf BadType members = EachAttribute (At (codes "type") IsTypeData) members
 IsFreeOf TooMany members = EachDimension (λ tables. length tables ≤ 6) members
 IsFreeOf NamedTwice members = EachDimension (AllPairs (DifferAt (codes "name"))) members
-IsFreeOf ProfileOutside members = (dim : Dim) → dim ≢ Customer → (tables : List Members) → HasTables (word_of dim) members tables → All IsOutsideProfile tables
-IsFreeOf ProfileMixed members = (tables : List Members) → HasTables (word_of Customer) members tables → All (IsNotOfType 4) tables ⊎ All (IsNotOfType 5) tables
+IsFreeOf ProfileOutside members = (dim : Dim) → dim ≢ Customer → (tables : List Members) → HasTables (dim_word dim) members tables → All IsOutsideProfile tables
+IsFreeOf ProfileMixed members = (tables : List Members) → HasTables (dim_word Customer) members tables → All (IsNotOfType 4) tables ⊎ All (IsNotOfType 5) tables
 IsFreeOf BadYears members = (years : Years) × WritesYears members years × AreYears years
 IsFreeOf BadHoliday members = HolidaysAreGood members
 
 -- the table writes this attribute
 pub record WritesAttribute (members : Members) (attribute : Attribute) : Type 0 where
   pub name : get_member (codes "name") members ≡ Some (string attribute.name)
-  pub kind : get_member (codes "type") members ≡ Some (integer (pos (type_number attribute.kind)))
+  pub kind : get_member (codes "type") members ≡ Some (integer (pos (attribute_type_number attribute.kind)))
 
 -- the table writes this holiday
 pub record WritesHoliday (members : Members) (holiday : Holiday) : Type 0 where
@@ -164,7 +164,7 @@ WritesHolidays (Some content) holidays = (tables : List Members) × IsArrayOf ta
 
 -- the table writes this policy: its attributes in the order of their tables, its years and its holidays
 pub record Writes (members : Members) (policy : Policy) : Type 0 where
-  pub attributes : (dim : Dim) → (tables : List Members) × HasTables (word_of dim) members tables × AllZip WritesAttribute tables (attributes_of policy dim)
+  pub attributes : (dim : Dim) → (tables : List Members) × HasTables (dim_word dim) members tables × AllZip WritesAttribute tables (policy_attributes policy dim)
   pub years : WritesYears members policy.years
   pub holidays : WritesHolidays (get_member (codes "holiday") members) policy.holidays
 
@@ -177,8 +177,8 @@ pub record AreAttributes (attributes : List Attribute) : Type 0 where
 
 -- what the crates above may count on
 pub record IsSound (policy : Policy) : Type 0 where
-  pub attributes : (dim : Dim) → AreAttributes (attributes_of policy dim)
-  pub outside : (dim : Dim) → dim ≢ Customer → All (λ a. ¬ IsTrue (is_profile a.kind)) (attributes_of policy dim)
+  pub attributes : (dim : Dim) → AreAttributes (policy_attributes policy dim)
+  pub outside : (dim : Dim) → dim ≢ Customer → All (λ a. ¬ IsTrue (is_profile a.kind)) (policy_attributes policy dim)
   pub unmixed : is_mixed policy.customer ≡ false
   pub years : AreYears policy.years
   pub holidays : All (λ holiday. IsTrue (is_day holiday.day) × IsWithin policy.years holiday.day) policy.holidays

@@ -29,5 +29,5 @@ found_years (Some (negsuc first)) last = Err BadYears
 found_years None last = Err BadYears
 
 -- the years from one value to another
-unfoldable pub years_at : Data → Data → Result Years PolicyFault
-years_at first last = found_years (as_integer first) (as_integer last)
+unfoldable pub years_of : Data → Data → Result Years PolicyFault
+years_of first last = found_years (as_integer first) (as_integer last)

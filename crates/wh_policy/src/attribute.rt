@@ -1,8 +1,8 @@
 //! Dimensions, their attributes and the types of slowly changing attributes.
 
 ghost use Rattle.std.specs.Prelude.{◌≡◌, ◌++◌, ◌∷◌, [], map, IfOk, OnOk, OnErr};
-ghost use Rattle.wh_policy.specs.Types.{is_tracked, is_profile, is_mini, is_outrigger, type_number, type_of_number, kinds_of};
-ghost use Rattle.wh_policy.specs.Words.{word_of, dim_of_word};
+ghost use Rattle.wh_policy.specs.Types.{is_tracked, is_profile, is_mini, is_outrigger, attribute_type_number, attribute_type_of_number, kinds_of};
+ghost use Rattle.wh_policy.specs.Words.{dim_word, dim_of_word};
 
 use std::alloc::{AllocError, Global};
 use std::marker::Model;
@@ -22,7 +22,7 @@ pub enum Dim {
 impl Dim {
     /// The word for it, in policies, in commands and in print.
     pub fn word(self) -> &'static str
-        ensures { result.now ≡ word_of self }
+        ensures { result.now ≡ dim_word self }
     {
         match self {
             Dim::Product => "product",
@@ -71,7 +71,7 @@ pub enum AttributeType {
 impl AttributeType {
     /// Its number, 0 to 7.
     pub fn number(self) -> u8
-        ensures { result ≡ type_number self }
+        ensures { result ≡ attribute_type_number self }
     {
         match self {
             AttributeType::RetainOriginal => 0,
@@ -87,7 +87,7 @@ impl AttributeType {
 
     /// The type of a number, 0 to 7; `None` for any other number.
     pub fn from_number(number: i64) -> Option<AttributeType>
-        ensures { result ≡ type_of_number number }
+        ensures { result ≡ attribute_type_of_number number }
     {
         match number {
             0 => Some(AttributeType::RetainOriginal),
@@ -196,11 +196,11 @@ impl Attributes {
     pub fn types(&self, alloc: Global) -> Result<Vec<AttributeType>, AllocError>
         ensures { IfOk result (λ types. types.items ≡ kinds_of self.now) }
     {
-        kinds(alloc, self.as_slice())
+        kinds_of(alloc, self.as_slice())
     }
 }
 
-fn kinds(alloc: Global, attributes: &[Attribute]) -> Result<Vec<AttributeType>, AllocError>
+fn kinds_of(alloc: Global, attributes: &[Attribute]) -> Result<Vec<AttributeType>, AllocError>
     ensures { IfOk result (λ types. types.items ≡ kinds_of attributes.now) }
 {
     attributes

@@ -6,10 +6,10 @@ ghost use Rattle.wh_day.specs.Reading.{Gives};
 ghost use Rattle.toml.specs.View.{view, table_view};
 ghost use Rattle.wh_policy.specs.Document.{each_after};
 ghost use Rattle.wh_policy.specs.Types.{is_mini, is_outrigger};
-ghost use Rattle.wh_policy.specs.Attributes.{is_name_byte, is_word, is_name, name_at, kind_at, takes_profile, is_mixed, is_named, attribute_at, attributes_at};
+ghost use Rattle.wh_policy.specs.Attributes.{is_name_byte, is_word, is_name, name_of, kind_of, takes_profile, is_mixed, is_named, attribute_of, attributes_of};
 
 use crate::attribute::{Attribute, AttributeType, Attributes, Dim};
-use crate::document::{has_only, required, tables};
+use crate::document::{has_only, required, tables_of};
 use crate::fault::PolicyFault;
 use std::alloc::Global;
 use toml::{Table, Value as TomlValue};
@@ -47,9 +47,9 @@ fn is_name(name: &str) -> bool
     is_word(name.as_bytes()) && name != "id" && name != "day"
 }
 
-#[tactic(auto, unfolding(crate::specs::Attributes::name_at))]
+#[tactic(auto, unfolding(crate::specs::Attributes::name_of))]
 fn name_of(alloc: Global, value: &TomlValue) -> Result<Value, ParseError<PolicyFault>>
-    ensures { Gives (λ name. name) result (name_at (view value.now)) }
+    ensures { Gives (λ name. name) result (name_of (view value.now)) }
 {
     match value.as_str() {
         Some(name) if is_name(name) => Ok(Value::new(alloc, name)?),
@@ -57,9 +57,9 @@ fn name_of(alloc: Global, value: &TomlValue) -> Result<Value, ParseError<PolicyF
     }
 }
 
-#[tactic(auto, unfolding(crate::specs::Attributes::kind_at))]
+#[tactic(auto, unfolding(crate::specs::Attributes::kind_of))]
 fn kind_of(value: &TomlValue) -> Result<AttributeType, ParseError<PolicyFault>>
-    ensures { Gives (λ kind. kind) result (kind_at (view value.now)) }
+    ensures { Gives (λ kind. kind) result (kind_of (view value.now)) }
 {
     let Some(number) = value.as_integer() else {
         return Err(ParseError::Fault(PolicyFault::BadType));
@@ -109,14 +109,14 @@ fn has_name(attributes: &[Attribute], name: &str) -> bool
         .any(|attribute| attribute.name.as_str() == name)
 }
 
-#[tactic(auto, unfolding(crate::specs::Attributes::attribute_at))]
+#[tactic(auto, unfolding(crate::specs::Attributes::attribute_of))]
 fn attribute_of(
     alloc: Global,
     dim: Dim,
     earlier: &[Attribute],
     table: &Table,
 ) -> Result<Attribute, ParseError<PolicyFault>>
-    ensures { Gives (λ attribute. attribute) result (attribute_at dim earlier.now (table_view table.now)) }
+    ensures { Gives (λ attribute. attribute) result (attribute_of dim earlier.now (table_view table.now)) }
 {
     if !has_only(table, &["name", "type"]) {
         return Err(ParseError::Fault(PolicyFault::UnknownKey));
@@ -139,7 +139,7 @@ fn attribute_list(
     dim: Dim,
     tables: &[&Table],
 ) -> Result<Attributes, ParseError<PolicyFault>>
-    ensures { Gives (λ attributes. attributes) result (each_after (attribute_at dim) [] (map (λ t. table_view t.now) tables.now)) }
+    ensures { Gives (λ attributes. attributes) result (each_after (attribute_of dim) [] (map (λ t. table_view t.now) tables.now)) }
 {
     let mut attributes = Attributes::new(alloc);
     for table in tables {
@@ -150,15 +150,15 @@ fn attribute_list(
 }
 
 /// The attributes of a dimension, in the order of their slots.
-#[tactic(auto, unfolding(crate::specs::Attributes::attributes_at))]
+#[tactic(auto, unfolding(crate::specs::Attributes::attributes_of))]
 pub(crate) fn attributes_of(
     alloc: Global,
     dim: Dim,
     value: &TomlValue,
 ) -> Result<Attributes, ParseError<PolicyFault>>
-    ensures { Gives (λ attributes. attributes) result (attributes_at dim (view value.now)) }
+    ensures { Gives (λ attributes. attributes) result (attributes_of dim (view value.now)) }
 {
-    let tables = tables(alloc, PolicyFault::Missing, value)?;
+    let tables = tables_of(alloc, PolicyFault::Missing, value)?;
     if tables.is_empty() {
         return Err(ParseError::Fault(PolicyFault::Missing));
     }

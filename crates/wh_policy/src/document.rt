@@ -7,7 +7,7 @@ ghost use Rattle.std.specs.BTreeMap.{keys};
 ghost use Rattle.wh_day.specs.Reading.{Gives};
 ghost use Rattle.toml.specs.Data.{get_member};
 ghost use Rattle.toml.specs.View.{view, items_view, table_view};
-ghost use Rattle.wh_policy.specs.Document.{document_at, has_only, required, tables_in, tables_at};
+ghost use Rattle.wh_policy.specs.Document.{document_of, has_only, required, tables_in, tables_of};
 
 use crate::fault::PolicyFault;
 use std::alloc::Global;
@@ -18,9 +18,9 @@ use wh_day::ParseError;
 pub const POLICY_LIMIT: usize = 65_536;
 
 /// The table that the bytes write.
-#[tactic(auto, unfolding(crate::specs::Document::document_at))]
-pub(crate) fn document(alloc: Global, bytes: &[u8]) -> Result<Table, ParseError<PolicyFault>>
-    ensures { Gives table_view result (document_at bytes.now) }
+#[tactic(auto, unfolding(crate::specs::Document::document_of))]
+pub(crate) fn document_of(alloc: Global, bytes: &[u8]) -> Result<Table, ParseError<PolicyFault>>
+    ensures { Gives table_view result (document_of bytes.now) }
 {
     if bytes.len() > POLICY_LIMIT {
         return Err(ParseError::Fault(PolicyFault::NotToml));
@@ -81,21 +81,21 @@ fn is_known(known: &[&str], key: &str) -> bool
 }
 
 /// The tables of an array, each element one; else the fault.
-#[tactic(auto, unfolding(crate::specs::Document::tables_at))]
-pub(crate) fn tables(
+#[tactic(auto, unfolding(crate::specs::Document::tables_of))]
+pub(crate) fn tables_of(
     alloc: Global,
     fault: PolicyFault,
     value: &Value,
 ) -> Result<Vec<&Table>, ParseError<PolicyFault>>
-    ensures { Gives (λ tables. map (λ t. table_view t.now) tables.items) result (tables_at fault (view value.now)) }
+    ensures { Gives (λ tables. map (λ t. table_view t.now) tables.items) result (tables_of fault (view value.now)) }
 {
     let Some(items) = value.as_array() else {
         return Err(ParseError::Fault(fault));
     };
-    table_list(alloc, fault, items)
+    tables_in(alloc, fault, items)
 }
 
-fn table_list(
+fn tables_in(
     alloc: Global,
     fault: PolicyFault,
     items: &[Value],

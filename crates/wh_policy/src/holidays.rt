@@ -6,18 +6,18 @@ ghost use Rattle.wh_day.specs.Holidays.{is_on};
 ghost use Rattle.wh_day.specs.Reading.{Gives};
 ghost use Rattle.toml.specs.View.{view, table_view};
 ghost use Rattle.wh_policy.specs.Document.{each_after};
-ghost use Rattle.wh_policy.specs.Holidays.{day_at, title_at, holiday_at, holidays_at};
+ghost use Rattle.wh_policy.specs.Holidays.{day_of, title_of, holiday_of, holidays_of};
 
-use crate::document::{has_only, required, tables};
+use crate::document::{has_only, required, tables_of};
 use crate::fault::PolicyFault;
 use crate::policy::Years;
 use std::alloc::Global;
 use toml::{Table, Value as TomlValue};
 use wh_day::{Day, Holiday, Holidays, ParseError, Value};
 
-#[tactic(auto, unfolding(crate::specs::Holidays::day_at))]
+#[tactic(auto, unfolding(crate::specs::Holidays::day_of))]
 fn day_of(years: Years, value: &TomlValue) -> Result<Day, ParseError<PolicyFault>>
-    ensures { Gives (λ day. day) result (day_at years (view value.now)) }
+    ensures { Gives (λ day. day) result (day_of years (view value.now)) }
 {
     let Some(text) = value.as_str() else {
         return Err(ParseError::Fault(PolicyFault::BadHoliday));
@@ -28,9 +28,9 @@ fn day_of(years: Years, value: &TomlValue) -> Result<Day, ParseError<PolicyFault
     }
 }
 
-#[tactic(auto, unfolding(crate::specs::Holidays::title_at))]
+#[tactic(auto, unfolding(crate::specs::Holidays::title_of))]
 fn title_of(alloc: Global, value: &TomlValue) -> Result<Value, ParseError<PolicyFault>>
-    ensures { Gives (λ name. name) result (title_at (view value.now)) }
+    ensures { Gives (λ name. name) result (title_of (view value.now)) }
 {
     let Some(text) = value.as_str() else {
         return Err(ParseError::Fault(PolicyFault::BadHoliday));
@@ -44,14 +44,14 @@ fn title_of(alloc: Global, value: &TomlValue) -> Result<Value, ParseError<Policy
     }
 }
 
-#[tactic(auto, unfolding(crate::specs::Holidays::holiday_at))]
+#[tactic(auto, unfolding(crate::specs::Holidays::holiday_of))]
 fn holiday_of(
     alloc: Global,
     years: Years,
     earlier: &Holidays,
     table: &Table,
 ) -> Result<Holiday, ParseError<PolicyFault>>
-    ensures value { Gives (λ holiday. holiday) result (holiday_at years earlier.now (table_view table.now)) }
+    ensures value { Gives (λ holiday. holiday) result (holiday_of years earlier.now (table_view table.now)) }
     ensures new { IfOk result (λ holiday. list_any (is_on holiday.day) earlier.now ≡ false) }
 {
     if !has_only(table, &["day", "name"]) {
@@ -72,7 +72,7 @@ fn holiday_list(
     years: Years,
     tables: &[&Table],
 ) -> Result<Holidays, ParseError<PolicyFault>>
-    ensures { Gives (λ holidays. holidays) result (each_after (holiday_at years) [] (map (λ t. table_view t.now) tables.now)) }
+    ensures { Gives (λ holidays. holidays) result (each_after (holiday_of years) [] (map (λ t. table_view t.now) tables.now)) }
 {
     let mut holidays = Holidays::new(alloc);
     for table in tables {
@@ -83,18 +83,18 @@ fn holiday_list(
 }
 
 /// The holidays of the years, in the order of their tables; none where there is no value.
-#[tactic(auto, unfolding(crate::specs::Holidays::holidays_at))]
+#[tactic(auto, unfolding(crate::specs::Holidays::holidays_of))]
 pub(crate) fn holidays_of(
     alloc: Global,
     years: Years,
     value: Option<&TomlValue>,
 ) -> Result<Holidays, ParseError<PolicyFault>>
-    ensures { Gives (λ holidays. holidays) result (holidays_at years (option_map (λ v. view v.now) value.entry)) }
+    ensures { Gives (λ holidays. holidays) result (holidays_of years (option_map (λ v. view v.now) value.entry)) }
 {
     match value {
         None => Ok(Holidays::new(alloc)),
         Some(value) => {
-            let tables = tables(alloc, PolicyFault::BadHoliday, value)?;
+            let tables = tables_of(alloc, PolicyFault::BadHoliday, value)?;
             holiday_list(alloc, years, &tables)
         }
     }

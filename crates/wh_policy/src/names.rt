@@ -6,7 +6,7 @@ ghost use Rattle.wh_policy.specs.Names.{slot_from, are_kept};
 use crate::attribute::Attribute;
 
 /// The slot, from 1, and the number of the type of the attribute with the name.
-pub(crate) fn slot_of(attributes: &[Attribute], name: &str) -> Option<(usize, u8)>
+pub(crate) fn slot_from(attributes: &[Attribute], name: &str) -> Option<(usize, u8)>
     ensures { result ≡ slot_from 1 name.now attributes.now }
 {
     for (i, attribute) in attributes.iter().enumerate() {

@@ -4,15 +4,15 @@ ghost use Rattle.std.specs.Prelude.{◌≡◌, ◌++◌, ◌∷◌, [], IfOk, On
 ghost use Rattle.toml.specs.View.{table_view};
 ghost use Rattle.wh_day.specs.Reading.{Gives};
 ghost use Rattle.wh_policy.specs.Names.{slot_from, fits};
-ghost use Rattle.wh_policy.specs.Policy.{attributes_of, types_of, trial_policy, described, policy_in, policy_at};
+ghost use Rattle.wh_policy.specs.Policy.{policy_attributes, policy_types, trial_policy, described, policy_of_table, read_policy};
 ghost use Rattle.wh_policy.specs.Years.{is_within, first_key, end_key};
 
 use crate::attribute::{Attribute, AttributeType, Attributes, Dim};
 use crate::dimension;
-use crate::document::{document, has_only, optional, required};
+use crate::document::{document_of, has_only, optional, required};
 use crate::fault::PolicyFault;
 use crate::holidays::holidays_of;
-use crate::names::{are_kept, slot_of};
+use crate::names::{are_kept, slot_from};
 use crate::years::years_of;
 use std::alloc::{AllocError, Global};
 use std::ops::Range;
@@ -86,17 +86,17 @@ impl Policy {
     /// The policy that the bytes of a file write: a TOML text of at most [`POLICY_LIMIT`](crate::POLICY_LIMIT) bytes, as docs/policies.md says.
     ///
     /// The fault is the first one in the order that stands there; [`ParseError::Memory`] where memory ran out.
-    #[tactic(auto, unfolding(crate::specs::Policy::policy_at))]
+    #[tactic(auto, unfolding(crate::specs::Policy::read_policy))]
     pub fn read(alloc: Global, bytes: &[u8]) -> Result<Policy, ParseError<PolicyFault>>
-        ensures { Gives (λ policy. policy) result (policy_at bytes.now) }
+        ensures { Gives (λ policy. policy) result (read_policy bytes.now) }
     {
-        let table = document(alloc, bytes)?;
+        let table = document_of(alloc, bytes)?;
         Policy::of_table(alloc, &table)
     }
 
-    #[tactic(auto, unfolding(crate::specs::Policy::policy_in))]
+    #[tactic(auto, unfolding(crate::specs::Policy::policy_of_table))]
     fn of_table(alloc: Global, table: &Table) -> Result<Policy, ParseError<PolicyFault>>
-        ensures { Gives (λ policy. policy) result (policy_in (table_view table.now)) }
+        ensures { Gives (λ policy. policy) result (policy_of_table (table_view table.now)) }
     {
         if !has_only(table, &TOP_KEYS) {
             return Err(ParseError::Fault(PolicyFault::UnknownKey));
@@ -125,9 +125,9 @@ impl Policy {
 
     /// The slot, from 1, and the number of the type, 0 to 7, of the dimension's attribute with the name. Takes no memory.
     pub fn attribute(&self, dim: Dim, name: &str) -> Option<(usize, u8)>
-        ensures { result ≡ slot_from 1 name.now (attributes_of self.now dim) }
+        ensures { result ≡ slot_from 1 name.now (policy_attributes self.now dim) }
     {
-        slot_of(self.attributes(dim), name)
+        slot_from(self.attributes(dim), name)
     }
 
     /// Whether a newer policy may take this one's place: each dimension's names stand in the same slots, more may follow,
@@ -168,7 +168,7 @@ impl Policy {
 
     /// The attributes of a dimension, by slot.
     pub fn attributes(&self, dim: Dim) -> &[Attribute]
-        ensures { result.now ≡ attributes_of self.now dim }
+        ensures { result.now ≡ policy_attributes self.now dim }
     {
         match dim {
             Dim::Product => self.product.as_slice(),
@@ -179,7 +179,7 @@ impl Policy {
 
     /// The types of a dimension's attributes, by slot. The error comes where memory ran out.
     pub fn types(&self, alloc: Global, dim: Dim) -> Result<Vec<AttributeType>, AllocError>
-        ensures { IfOk result (λ types. types.items ≡ types_of self.now dim) }
+        ensures { IfOk result (λ types. types.items ≡ policy_types self.now dim) }
     {
         match dim {
             Dim::Product => self.product.types(alloc),

@@ -15,7 +15,7 @@ use Rattle.wh_history.specs.Accepted.{Accepted}
 use Rattle.wh_history.specs.Tables.{Limits}
 use Rattle.wh_admission.specs.Admission.{answer as answer_to, accepted_after, accepted_after_all}
 use Rattle.wh_admission.specs.declared.command.Command.{Command}
-use Rattle.wh_admission.specs.declared.command.Refused.{Refused}
+use Rattle.wh_admission.specs.declared.command.Refusal.{Refusal}
 use Rattle.wh_admission.specs.declared.command.Reply.{Reply}
 use Rattle.wh_admission.specs.declared.command.Reply.TheVariants.{Accepted as Accepts, Already}
 use Rattle.wh_engine.specs.Answered.{IsReady, IsAnswered}
@@ -63,14 +63,14 @@ no_answers [] = refl
 no_answers (c ∷ left) = refl
 
 -- commands that aren't answered have no line
-lines_among : (before : List Command) (answers : List (Result Reply Refused)) (behind : List Command) → length answers ≡ length before → answered_lines (before ++ behind) answers ≡ answered_lines before answers
+lines_among : (before : List Command) (answers : List (Result Reply Refusal)) (behind : List Command) → length answers ≡ length before → answered_lines (before ++ behind) answers ≡ answered_lines before answers
 lines_among [] [] behind same = no_answers behind
 lines_among [] (a ∷ answers) behind same = absurd (omega (arith, same))
 lines_among (c ∷ before) [] behind same = refl
 lines_among (c ∷ before) (a ∷ answers) behind same = ap (λ (t : List ℕ). answered_line c.id a ++ t) (lines_among before answers behind (omega (arith, same)))
 
 -- one more answer has its line behind the others
-lines_next : (before : List Command) (answers : List (Result Reply Refused)) (c : Command) (a : Result Reply Refused) → length answers ≡ length before
+lines_next : (before : List Command) (answers : List (Result Reply Refusal)) (c : Command) (a : Result Reply Refusal) → length answers ≡ length before
     → answered_lines (before ++ c ∷ []) (answers ++ a ∷ []) ≡ answered_lines before answers ++ answered_line c.id a
 lines_next [] [] c a same = append-nil (answered_line c.id a)
 lines_next [] (b ∷ answers) c a same = absurd (omega (arith, same))
@@ -81,16 +81,16 @@ lines_next (d ∷ before) (b ∷ answers) c a same =
 -- ---- the status
 
 -- how a delivery ends at an answer
-abbrev ending_of : Result Reply Refused → Ending
+abbrev ending_of : Result Reply Refusal → Ending
 ending_of (Ok reply) = ending.Done
 ending_of (Err why) = ending.Refused
 
-any_still : (answers : List (Result Reply Refused)) (reply : Reply) → list_any is_err (answers ++ Ok reply ∷ []) ≡ list_any is_err answers
+any_still : (answers : List (Result Reply Refusal)) (reply : Reply) → list_any is_err (answers ++ Ok reply ∷ []) ≡ list_any is_err answers
 any_still [] reply = refl
 any_still (Ok first ∷ answers) reply = any_still answers reply
 any_still (Err why ∷ answers) reply = refl
 
-any_now : (answers : List (Result Reply Refused)) (why : Refused) → list_any is_err (answers ++ Err why ∷ []) ≡ true
+any_now : (answers : List (Result Reply Refusal)) (why : Refusal) → list_any is_err (answers ++ Err why ∷ []) ≡ true
 any_now [] why = refl
 any_now (Ok reply ∷ answers) why = any_now answers why
 any_now (Err first ∷ answers) why = refl
@@ -100,7 +100,7 @@ ending_where refused = if refused then ending.Refused else ending.Done
 
 -- a reply that isn't cut off and doesn't end a delivery is an answer, whose line went out
 told_answer : (id : List ℕ) (told : Ending) (reply : Result Reply Fault) (old new : Option (List ℕ)) → told ≢ ending.Failed → Prints old new (status_code told) (sent_answer id reply)
-    → (a : Result Reply Refused) × (answer_or_stop reply ≡ Ok a) × Appends old new (answered_line id a) × (told ≡ ending_of a)
+    → (a : Result Reply Refusal) × (answer_or_stop reply ≡ Ok a) × Appends old new (answered_line id a) × (told ≡ ending_of a)
 told_answer id ending.Failed reply old new goes prints = absurd (goes refl)
 told_answer id ending.Done reply old new goes (inr (kept, cut)) = let at = cut.status in absurd (omega (arith, at))
 told_answer id ending.Done (Ok (Accepts receipt)) old new goes (inl whole) = (Ok (Accepts receipt), refl, whole.text, refl)
@@ -132,7 +132,7 @@ failed_stop id (Err fault.Reopen) is = (fault.Reopen, refl, refl)
 -- ---- what is left
 
 -- what the engine's answers say of the store, as what stands
-delivered : (sent : List Command) (limits : Limits) (commands : List Accepted) (told : Told) (answers : List (Result Reply Refused)) (stop : Option Fault) (session : Session) (s : State)
+delivered : (sent : List Command) (limits : Limits) (commands : List Accepted) (told : Told) (answers : List (Result Reply Refusal)) (stop : Option Fault) (session : Session) (s : State)
     → printed told ≡ delivery_answer sent answers stop → EngineDelivered limits commands sent answers stop session s
     → (after : Standing) × IsDelivered sent limits commands told after × Stands after s
 delivered sent limits commands told answers None session s tells (are, ready) =
@@ -156,7 +156,7 @@ WhenReadyIn first s0 s fact = HasCleanDisk s → (limits : Limits) (commands : L
 
 -- The lines of the answers to these commands went out, and the answers are those that are due.
 pub record AreSent (sent : List Command) (first last : Session) (s0 s : State) (old new : Option (List ℕ)) (status : Ending) : Type 0 where
-  pub answers : List (Result Reply Refused)
+  pub answers : List (Result Reply Refusal)
   pub many : length answers ≡ length sent
   pub went : Appends old new (answered_lines sent answers)
   pub ends : status ≡ delivery_status answers None
@@ -184,7 +184,7 @@ module _ (before : List Command) (c : Command) (first at last : Session) (s0 s1 
     (are : AreSent before first at s0 s1 old mid status) (prints : Prints mid new (status_code told) (sent_answer c.id reply)) (clean : HasCleanDisk s2 → HasCleanDisk s1)
     (answered : WhenReadyIn at s1 s2 (λ limits commands. IsAnswered limits commands c reply last s2)) where
   -- one more
-  next_sent : (next : Ending) (a : Result Reply Refused) → answer_or_stop reply ≡ Ok a → Appends mid new (answered_line c.id a) → next ≡ delivery_status (are.answers ++ a ∷ []) None
+  next_sent : (next : Ending) (a : Result Reply Refusal) → answer_or_stop reply ≡ Ok a → Appends mid new (answered_line c.id a) → next ≡ delivery_status (are.answers ++ a ∷ []) None
       → AreSent (before ++ c ∷ []) first last s0 s2 old new next
   next_sent next a is line ends = record {
     answers = are.answers ++ a ∷ [];

@@ -4,7 +4,7 @@ use Rattle.sqlite.specs.State.{State}
 use Rattle.wh_batch.specs.declared.kind.CommandKind.{CommandKind}
 use Rattle.wh_history.specs.Accepted.{Accepted}
 use Rattle.wh_history.specs.Tables.{Limits}
-use Rattle.wh_admission.specs.declared.command.Refused.{Refused}
+use Rattle.wh_admission.specs.declared.command.Refusal.{Refusal}
 use Rattle.wh_engine.specs.Previewed.{IsPreviewed}
 use Rattle.wh_engine.specs.Scanned.{IsServing}
 use Rattle.wh_engine.specs.declared.fault.Fault.{Fault}
@@ -21,6 +21,6 @@ told_in_place A limits commands kind bytes (fault.Damaged table) session s servi
 told_in_place A limits commands kind bytes fault.Reopen session s serving = serving
 
 -- what is said of a fault is said of the refusal that it is
-pub of_refusal : (limits : Limits) (commands : List Accepted) (kind : CommandKind) (bytes : List ℕ) (found : Fault) (why : Refused) (session : Session) (s : State) → found ≡ fault.Refused why
+pub of_refusal : (limits : Limits) (commands : List Accepted) (kind : CommandKind) (bytes : List ℕ) (found : Fault) (why : Refusal) (session : Session) (s : State) → found ≡ fault.Refused why
     → IsPreviewed limits commands kind bytes (Err found) session s → IsPreviewed limits commands kind bytes (Err (fault.Refused why)) session s
 of_refusal limits commands kind bytes found why session s is previewed = subst (λ (f : Fault). IsPreviewed limits commands kind bytes (Err f) session s) is previewed

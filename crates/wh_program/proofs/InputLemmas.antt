@@ -4,8 +4,8 @@ use Rattle.std.specs.Prelude.{IfOk, nat_lt}
 use Rattle.std.proofs.lemmas.Bool.{cases_lt, lt-ltb, le-ltb}
 use Rattle.std.proofs.lemmas.Result.{IfOk-weaker}
 use Rattle.std.proofs.lemmas.List.{length-take, length-take-le, take_all, take-take}
-use Rattle.wh_policy.specs.Document.{document_at}
-use Rattle.wh_policy.specs.Policy.{attributes_of, policy_at}
+use Rattle.wh_policy.specs.Document.{document_of}
+use Rattle.wh_policy.specs.Policy.{policy_attributes, read_policy}
 use Rattle.wh_policy.specs.declared.attribute.Dim.{Dim}
 use Rattle.wh_policy.specs.declared.policy.Policy.{Policy}
 use Rattle.wh_batch.specs.Batch.{Layout, batch_of}
@@ -42,20 +42,20 @@ past_or_whole most bytes = elim (cases_lt most (length bytes)) [
 
 -- a trial of a batch under a policy, each as far as it is read
 pub tried_under : (holds : Files) (dim : Dim) (path policy_path text batch : List ℕ) (told : Told) → up_to policy_limit holds policy_path (Some text) → up_to batch_limit holds path (Some batch)
-    → IfOk told (λ a. a ≡ answer_under dim batch (policy_at text)) → IfOk told (AnswersTrial holds dim path (Some policy_path))
+    → IfOk told (λ a. a ≡ answer_under dim batch (read_policy text)) → IfOk told (AnswersTrial holds dim path (Some policy_path))
 tried_under holds dim path policy_path text batch told first second tells = IfOk-weaker told _ _ (λ a is. (Some text, Some batch, first, λ there. second, is)) tells
 
 -- ---- laws
 
-document_so : (bytes : List ℕ) → document_at (take (suc policy_limit) bytes) ≡ document_at bytes
-unfolding document_at
+document_so : (bytes : List ℕ) → document_of (take (suc policy_limit) bytes) ≡ document_of bytes
+unfolding document_of
 document_so bytes = elim (past_or_whole policy_limit bytes) [
   | inl past ↦ rw (past.0, past.1) refl
   | inr whole ↦ rw whole refl
 ]
 
 pub policies_so : PoliciesAreReadSo
-unfolding policy_at
+unfolding read_policy
 policies_so bytes = rw (document_so bytes) refl
 
 batch_so : {R : Type 0} (layout : Layout R) (bytes : List ℕ) → batch_of layout (take (suc batch_limit) bytes) ≡ batch_of layout bytes
@@ -67,7 +67,7 @@ batch_so layout bytes = elim (past_or_whole batch_limit bytes) [
 
 dimension_so : (dim : Dim) (policy : Policy) (bytes : List ℕ) → dimension_records dim policy (take (suc batch_limit) bytes) ≡ dimension_records dim policy bytes
 unfolding dimension_records
-dimension_so dim policy bytes = batch_so (dimension_layout (attributes_of policy dim)) bytes
+dimension_so dim policy bytes = batch_so (dimension_layout (policy_attributes policy dim)) bytes
 
 sales_so : (format : Format) (policy : Policy) (bytes : List ℕ) → sale_records policy format (take (suc batch_limit) bytes) ≡ sale_records policy format bytes
 unfolding sale_records

@@ -26,7 +26,7 @@ use Rattle.wh_engine.specs.declared.session.Session.{Session}
 use Rattle.wh_report.specs.Asked.{Asked}
 use Rattle.wh_report.specs.Output.{AreOut, IsOutInLines, IsOfDump, of_warehouse}
 use Rattle.wh_report.specs.Reported.{Reports}
-use Rattle.wh_report.specs.Request.{asked, subject_reads, has_reading, no_reading}
+use Rattle.wh_report.specs.Request.{read_request, subject_reads, has_reading, no_reading}
 use Rattle.wh_report.specs.Subject.{subject_in}
 use Rattle.wh_report.specs.declared.mode.Mode.{Mode}
 use Rattle.wh_report.specs.declared.output.ReportFault.{ReportFault}
@@ -91,8 +91,8 @@ subject_asked None mode read request is = absurd (cc)
 subject_asked (Some subject) mode read request is = let past = past_test (subject_reads mode (Some subject)) (no_reading subject mode) (read subject) request is in (past.0, (subject, past.1))
 
 -- a request that is given has a reading
-pub given-reads : (policy : Policy) (words : List ℕ) (mode : Mode) (from to : List ℕ) (request : Asked) → asked policy words mode from to ≡ Ok request → has_reading policy request ≡ true
-unfolding asked
+pub given-reads : (policy : Policy) (words : List ℕ) (mode : Mode) (from to : List ℕ) (request : Asked) → read_request policy words mode from to ≡ Ok request → has_reading policy request ≡ true
+unfolding read_request
 given-reads policy words mode from to request is =
     let found = subject_asked (subject_in policy words) mode (λ subject. ok_or (read_day from) BadRange >>= λ first. ok_or (read_day to) BadRange >>= λ last.
     unless_fault (not (nat_lt last first)) BadRange (Ok (record { words = words; mode = mode; from = first; to = last }))) request is in

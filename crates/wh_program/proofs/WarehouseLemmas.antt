@@ -6,7 +6,7 @@ use Rattle.std.proofs.lemmas.Result.{IfOk-weaker}
 use Rattle.std.specs.declared.alloc.AllocError.{AllocError}
 use Rattle.sqlite.specs.Change.{is_used}
 use Rattle.sqlite.specs.State.{State}
-use Rattle.wh_policy.specs.Policy.{policy_at}
+use Rattle.wh_policy.specs.Policy.{read_policy}
 use Rattle.wh_policy.specs.declared.fault.PolicyFault.{PolicyFault}
 use Rattle.wh_policy.specs.declared.policy.Policy.{Policy}
 use Rattle.wh_history.specs.Accepted.{Accepted}
@@ -14,7 +14,7 @@ use Rattle.wh_history.specs.Tables.{Limits}
 use Rattle.wh_rows.specs.AtRest.{IsAtRest}
 use Rattle.wh_rows.specs.Limits.{greatest_limits}
 use Rattle.wh_rows.specs.Schema.{no_schema, warehouse, schema_in}
-use Rattle.wh_sql.specs.Present.{are_all_there, is_any_taken, is_second_taken}
+use Rattle.wh_sql.specs.Present.{has_tables, is_any_taken, is_second_taken}
 use Rattle.wh_sql.proofs.Worked.{taken_in_a_warehouse, taken_in_none, second_taken}
 use Rattle.wh_plan.specs.Edits.{Edits}
 use Rattle.wh_model.specs.Sound.{making_of}
@@ -24,7 +24,7 @@ use Rattle.wh_engine.specs.Answered.{IsReady, IsLeft, IsAnswered, IsPlanOf, IsFo
 use Rattle.wh_engine.specs.Outcome.{Left, At, Between, Outcome}
 use Rattle.wh_engine.specs.Opened.{SessionIs, IsUnopened as UnopenedBy, IsNotOpened, IsNotMade, NothingIsWritten, LeavesMade}
 use Rattle.wh_admission.specs.declared.command.Command.{Command}
-use Rattle.wh_admission.specs.declared.command.Refused.{Refused as Refusal}
+use Rattle.wh_admission.specs.declared.command.Refusal.{Refusal as Refusal}
 use Rattle.wh_admission.specs.declared.command.Reply.{Reply}
 use Rattle.wh_engine.specs.declared.counts.Counts.{Counts}
 use Rattle.wh_engine.specs.declared.fault.Fault.{Fault}
@@ -52,8 +52,8 @@ use Rattle.wh_program.specs.declared.host.HostError.TheVariants.{NoFile}
 use Rattle.wh_report.proofs.AddedLines.{second_true}
 
 -- where no object is, the ten tables are not all there
-pub none_there : are_all_there no_schema ≡ false
-unfolding are_all_there
+pub none_there : has_tables no_schema ≡ false
+unfolding has_tables
 none_there = refl
 
 -- in a warehouse of either format names of its tables are taken
@@ -176,7 +176,7 @@ counted limits commands told counts session s tells is =
 -- ---- init
 
 pub made_ok : (content : DatabaseContent) (bytes : List ℕ) (told : Told) (policy : Policy) (limits : Limits) (session : Session) (s0 s1 : State)
-    → limits ≡ greatest_limits → policy_at bytes ≡ Ok policy → (IsAtRest None s0 → IsReady limits (making_of policy bytes ∷ []) session s1) → is_any_taken s0.now.schema ≡ false
+    → limits ≡ greatest_limits → read_policy bytes ≡ Ok policy → (IsAtRest None s0 → IsReady limits (making_of policy bytes ∷ []) session s1) → is_any_taken s0.now.schema ≡ false
     → told ≡ Ok (done made_line) → IsAt content s0 → (after : Standing) × Makes bytes content told after × Stands after s1
 made_ok Nothing bytes told policy limits session s0 s1 most reads makes free tells at =
     let ready = subst (λ l. IsReady l (making_of policy bytes ∷ []) session s1) most (makes at) in
@@ -188,8 +188,8 @@ made_ok (Holds l cs) bytes told policy limits session s0 s1 most reads makes fre
     let taken : is_any_taken s0.now.schema ≡ true = ap is_any_taken at.1.rests.now.schema ∙ taken_in at.1.tables.format in
     absurd (cc (free, taken))
 
-unmade_store : (bytes : List ℕ) (told : Told) (why : InitFault) (s1 : State) (read : Result Policy PolicyFault) → policy_at bytes ≡ read → IsOk read
-    → ((policy : Policy) (after : Standing) → policy_at bytes ≡ Ok policy → after ≡ LeftAt Nothing (Holds greatest_limits (making_of policy bytes ∷ [])) → Makes bytes Nothing told after)
+unmade_store : (bytes : List ℕ) (told : Told) (why : InitFault) (s1 : State) (read : Result Policy PolicyFault) → read_policy bytes ≡ read → IsOk read
+    → ((policy : Policy) (after : Standing) → read_policy bytes ≡ Ok policy → after ≡ LeftAt Nothing (Holds greatest_limits (making_of policy bytes ∷ [])) → Makes bytes Nothing told after)
     → LeavesMade greatest_limits bytes s1 → (after : Standing) × Makes bytes Nothing told after × Stands after s1
 unmade_store bytes told why s1 (Ok policy) e ok says left = (
   LeftAt Nothing (Holds greatest_limits (making_of policy bytes ∷ [])),
@@ -210,7 +210,7 @@ unmade_nothing bytes told (making.Policy fault) s1 refused same left tells = (Re
 unmade_nothing bytes told making.NotEmpty s1 refused same left tells = absurd (cc refused.1)
 unmade_nothing bytes told making.Memory s1 refused same left tells = (Rests Nothing, inr (record { why = making.Memory; leaves = (tt, refl); tells = tells }), same tt)
 unmade_nothing bytes told (making.Store cause) s1 refused same left tells =
-    unmade_store bytes told (making.Store cause) s1 (policy_at bytes) refl refused (λ policy after e is. inr (record { why = making.Store cause; leaves = (policy, e, is); tells = tells })) left
+    unmade_store bytes told (making.Store cause) s1 (read_policy bytes) refl refused (λ policy after e is. inr (record { why = making.Store cause; leaves = (policy, e, is); tells = tells })) left
 
 pub unmade : (content : DatabaseContent) (bytes : List ℕ) (told : Told) (why : InitFault) (limits : Limits) (s0 s1 : State)
     → limits ≡ greatest_limits → IsNotMade bytes (is_any_taken s0.now.schema) why → (NothingIsWritten why → IsAtRest None s0 → IsAtRest None s1) → (IsAtRest None s0 → LeavesMade limits bytes s1)
@@ -249,13 +249,13 @@ module _ (refuses : Refusals) (stands : Standing → Type 0) (content : Database
 -- ---- with the bytes of an input
 
 -- under a bad policy nothing is done
-pub nothing_made : (content : DatabaseContent) (bytes : List ℕ) (fault : PolicyFault) (a : Printed) → policy_at bytes ≡ Err fault → a ≡ refused (policy_line fault) → Makes bytes content (Ok a) (Rests content)
+pub nothing_made : (content : DatabaseContent) (bytes : List ℕ) (fault : PolicyFault) (a : Printed) → read_policy bytes ≡ Err fault → a ≡ refused (policy_line fault) → Makes bytes content (Ok a) (Rests content)
 nothing_made Nothing bytes fault a bad tells = inr (record { why = making.Policy fault; leaves = (bad, refl); tells = tells })
 nothing_made (Holds limits commands) bytes fault a bad tells = record { why = making.Policy fault; refused = bad; same = refl; tells = tells }
 nothing_made (Keeps stored) bytes fault a bad tells = record { why = making.Policy fault; refused = bad; same = refl; tells = tells }
 
 module _ (holds : Files) (refuses : Refusals) (stands : Standing → Type 0) (content : DatabaseContent) (file path bytes : List ℕ) (held : holds path (Some bytes)) where
-  pub bad_answered : (fault : PolicyFault) (told : Told) → policy_at bytes ≡ Err fault → stands (Rests content) → IfOk told (λ a. a ≡ refused (policy_line fault))
+  pub bad_answered : (fault : PolicyFault) (told : Told) → read_policy bytes ≡ Err fault → stands (Rests content) → IfOk told (λ a. a ≡ refused (policy_line fault))
       → AnswersWith holds refuses stands Makes content file path told
   bad_answered fault (Ok a) bad same tells =
       inl (record { bytes = bytes; held = held; tried = record { after = Rests content; then_stands = same; did = nothing_made content bytes fault a bad tells } })

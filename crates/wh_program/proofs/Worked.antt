@@ -7,8 +7,8 @@ use Rattle.wh_policy.specs.declared.attribute.Dim.TheVariants.{Product, Customer
 use Rattle.wh_day.specs.declared.calendar.DateRow.{DateRow}
 use Rattle.wh_batch.specs.declared.kind.CommandKind.TheVariants.{Migration}
 use Rattle.wh_admission.specs.declared.command.Command.{Command}
-use Rattle.wh_admission.specs.declared.command.Refused.{Refused}
-use Rattle.wh_admission.specs.declared.command.Refused.TheVariants.{BadId, Upgraded, NameTaken}
+use Rattle.wh_admission.specs.declared.command.Refusal.{Refusal}
+use Rattle.wh_admission.specs.declared.command.Refusal.TheVariants.{BadId, Upgraded, NameTaken}
 use Rattle.wh_admission.specs.declared.command.Reply.{Reply}
 use Rattle.wh_admission.specs.declared.command.Reply.TheVariants.{Accepted, Already}
 use Rattle.wh_engine.specs.declared.fault.Fault.TheVariants.{Memory, Store}
@@ -164,7 +164,7 @@ sent id = record { id = id; kind = Migration; bytes = [] }
 abbrev night : List Command
 night = sent (codes "p1") ∷ sent (codes "s1") ∷ sent (codes "s1") ∷ sent (codes "bad id") ∷ []
 
-abbrev answers : List (Result Reply Refused)
+abbrev answers : List (Result Reply Refusal)
 answers = Ok (Accepted (receipt 2 1 0)) ∷ Ok (Accepted (receipt 3 2 1)) ∷ Ok (Already (receipt 3 2 1)) ∷ Err BadId ∷ []
 
 text_of_a_delivery : delivery_answer night answers None

@@ -4,7 +4,7 @@ use Rattle.std.specs.Fmt.{decimal}
 use Rattle.wh_day.specs.Reading.{◌>>=◌}
 use Rattle.wh_policy.specs.declared.attribute.Dim.{Dim}
 use Rattle.wh_policy.specs.declared.policy.Policy.{Policy}
-use Rattle.wh_policy.specs.Policy.{trial_policy, policy_at}
+use Rattle.wh_policy.specs.Policy.{trial_policy, read_policy}
 use Rattle.wh_policy.specs.declared.fault.PolicyFault.{PolicyFault}
 use Rattle.wh_policy.specs.declared.fault.PolicyFault.TheVariants.{NotToml, Missing, UnknownKey, BadName, BadType, TooMany, NamedTwice, ProfileOutside, ProfileMixed, BadYears, BadHoliday}
 use Rattle.wh_batch.specs.Layouts.{dimension_records}
@@ -132,7 +132,7 @@ answer_under dim batch (Err fault) = refused (policy_line fault)
 abbrev pub trial_answer_under : Dim → List ℕ → Option (List ℕ) → List ℕ → Option (List ℕ) → Printed
 trial_answer_under dim policy_path None path file = failed (no_file_line policy_path)
 trial_answer_under dim policy_path (Some text) path None = failed (no_file_line path)
-trial_answer_under dim policy_path (Some text) path (Some batch) = answer_under dim batch (policy_at text)
+trial_answer_under dim policy_path (Some text) path (Some batch) = answer_under dim batch (read_policy text)
 
 -- the files that a trial names hold what it answers, as far as they are read; where the policy's isn't there, the batch's isn't looked for
 abbrev pub AnswersTrial : Files → Dim → List ℕ → Option (List ℕ) → Printed → Type 0

@@ -1,7 +1,7 @@
 -- Nothing is lost where an input is read to its limit and a byte, and a longer manifest, or list of reports, is refused; and which words are those of a command.
 use Rattle.std.specs.Prelude.{◌≡◌, ◌⊎◌, ◌<◌, ℕ, suc, List, length, take, true, None, Result, Err}
 use Rattle.std.specs.List.{list_all}
-use Rattle.wh_policy.specs.Policy.{policy_at}
+use Rattle.wh_policy.specs.Policy.{read_policy}
 use Rattle.wh_policy.specs.declared.format.Format.{Format}
 use Rattle.wh_policy.specs.declared.attribute.Dim.{Dim}
 use Rattle.wh_policy.specs.declared.policy.Policy.{Policy}
@@ -15,7 +15,7 @@ use Rattle.wh_program.specs.Task.{asked_by, no_line, task_of}
 
 -- a policy is what is read so
 abbrev pub PoliciesAreReadSo : Type 0
-PoliciesAreReadSo = (bytes : List ℕ) → policy_at (take (suc policy_limit) bytes) ≡ policy_at bytes
+PoliciesAreReadSo = (bytes : List ℕ) → read_policy (take (suc policy_limit) bytes) ≡ read_policy bytes
 
 -- a trial has the rows, or the fault, of the batch that is read so
 abbrev pub TrialsAreReadSo : Type 0

@@ -13,7 +13,7 @@ use Rattle.wh_engine.specs.declared.fault.Fault.{Fault}
 use Rattle.wh_report.specs.Asked.{Asked}
 use Rattle.wh_report.specs.Dump.{text_of_table}
 use Rattle.wh_report.specs.Reported.{report_of}
-use Rattle.wh_report.specs.Request.{asked}
+use Rattle.wh_report.specs.Request.{read_request}
 use Rattle.wh_report.specs.declared.output.ReportFault.{ReportFault}
 use Rattle.wh_report.specs.declared.output.ReportFault.TheVariants as report
 use Rattle.wh_report.specs.declared.request.RequestFault.{RequestFault}
@@ -33,7 +33,7 @@ LeavesRead limits commands read after = Outcome IsOk commands commands read (λ 
 
 -- what the words ask for under a policy, or the first fault
 abbrev pub asked_under : Policy → ReportWords → Result Asked RequestFault
-asked_under policy words = asked policy words.attribute words.mode words.from words.to
+asked_under policy words = read_request policy words.attribute words.mode words.from words.to
 
 -- the report that is asked for, or what is wrong with the words
 abbrev pub asked_answer : List Accepted → Result Asked RequestFault → Printed

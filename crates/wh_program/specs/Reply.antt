@@ -4,14 +4,14 @@ use Rattle.std.specs.Fmt.{decimal}
 use Rattle.std.specs.declared.alloc.Global.{Global}
 use Rattle.std.specs.declared.vec.Vec.{Vec}
 use Rattle.wh_policy.specs.declared.attribute.AttributeType.{AttributeType}
-use Rattle.wh_policy.specs.Types.{type_number}
+use Rattle.wh_policy.specs.Types.{attribute_type_number}
 use Rattle.wh_admission.specs.declared.command.Receipt.{Receipt}
 use Rattle.wh_admission.specs.declared.command.Reply.{Reply}
 use Rattle.wh_admission.specs.declared.command.Reply.TheVariants.{Accepted, Already}
 use Rattle.wh_admission.specs.declared.command.Limit.{Limit}
 use Rattle.wh_admission.specs.declared.command.Limit.TheVariants.{Commands, Changes, Facts}
-use Rattle.wh_admission.specs.declared.command.Refused.{Refused}
-use Rattle.wh_admission.specs.declared.command.Refused.TheVariants as refusal
+use Rattle.wh_admission.specs.declared.command.Refusal.{Refusal}
+use Rattle.wh_admission.specs.declared.command.Refusal.TheVariants as refusal
 use Rattle.wh_check.specs.declared.verdict.Verdict.{Verdict}
 use Rattle.wh_check.specs.declared.verdict.Verdict.TheVariants.{Clean, Wrong}
 use Rattle.wh_engine.specs.declared.counts.Counts.{Counts}
@@ -58,7 +58,7 @@ sale_there_line number = line (codes "refused: E6 line there, record " ++ decima
 abbrev pub no_sale_line : ℕ → List ℕ
 no_sale_line number = line (codes "refused: E6 no line, record " ++ decimal number)
 
-abbrev pub refused_line : Refused → List ℕ
+abbrev pub refused_line : Refusal → List ℕ
 refused_line refusal.BadId = line (codes "refused: E1 bad id")
 refused_line refusal.Reused = line (codes "refused: E2 id reused")
 refused_line (refusal.Batch fault) = batch_line fault
@@ -112,7 +112,7 @@ verdict_answer (Err fault) = fault_answer fault
 
 -- an attribute of this type has nothing to show in the mode
 abbrev pub no_reading_line : AttributeType → Mode → List ℕ
-no_reading_line kind mode = line (codes "refused: G2 no reading, type " ++ decimal (type_number kind) ++ codes " " ++ mode_word mode)
+no_reading_line kind mode = line (codes "refused: G2 no reading, type " ++ decimal (attribute_type_number kind) ++ codes " " ++ mode_word mode)
 
 -- what is wrong with a report that was asked for
 abbrev pub request_line : RequestFault → List ℕ

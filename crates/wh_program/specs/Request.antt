@@ -16,8 +16,8 @@ use Rattle.wh_program.specs.declared.words.command.Task.{Task as TaskFound}
 use Rattle.wh_program.specs.declared.words.command.Task.TheVariants as found
 
 -- what an option points to
-abbrev pub text_of : Option (Bor (List ℕ)) → Option (List ℕ)
-text_of word = option_map (λ w. w.now) word
+abbrev pub optional_text : Option (Bor (List ℕ)) → Option (List ℕ)
+optional_text word = option_map (λ w. w.now) word
 
 -- the command that operands name
 abbrev pub sent_of : SentOperands → Sent
@@ -25,14 +25,14 @@ sent_of s = record { file = s.file.now; kind = s.kind.now; id = s.id.now; path =
 
 -- the command line whose operands these are
 abbrev pub line_of : Operands → CommandLine
-line_of (operands.Trial dimension path policy) = line.Trial dimension.now path.now (text_of policy)
+line_of (operands.Trial dimension path policy) = line.Trial dimension.now path.now (optional_text policy)
 line_of (operands.Init file policy) = line.Init file.now policy.now
 line_of (operands.Load s) = line.Load s.file.now s.kind.now s.id.now s.path.now
 line_of (operands.Migrate file id policy) = line.Migrate file.now id.now policy.now
 line_of (operands.Upgrade file id) = line.Upgrade file.now id.now
 line_of (operands.Deliver file manifest) = line.Deliver file.now manifest.now
 line_of (operands.Plan s) = line.Plan s.file.now s.kind.now s.id.now s.path.now
-line_of (operands.Explain file kind path) = line.Explain file.now kind.now (text_of path)
+line_of (operands.Explain file kind path) = line.Explain file.now kind.now (optional_text path)
 line_of (operands.Report r) = line.Report r.file.now r.attribute.now r.mode.now r.from.now r.to.now
 line_of (operands.Reports file list) = line.Reports file.now list.now
 line_of (operands.Dump file table) = line.Dump file.now table.now
@@ -44,14 +44,14 @@ report_words asked = record { attribute = asked.attribute.now; mode = asked.mode
 
 -- what is to be done
 abbrev pub task_in : TaskFound → Task
-task_in (found.Trial dim path policy) = task.Trial dim path.now (text_of policy)
+task_in (found.Trial dim path policy) = task.Trial dim path.now (optional_text policy)
 task_in (found.Init file policy) = task.Init file.now policy.now
 task_in (found.Load file kind id path) = task.Load file.now kind id.now path.now
 task_in (found.Migrate file id policy) = task.Migrate file.now id.now policy.now
 task_in (found.Upgrade file id) = task.Upgrade file.now id.now
 task_in (found.Deliver file manifest) = task.Deliver file.now manifest.now
 task_in (found.Plan file kind id path) = task.Plan file.now kind id.now path.now
-task_in (found.Explain file kind path) = task.Explain file.now kind (text_of path)
+task_in (found.Explain file kind path) = task.Explain file.now kind (optional_text path)
 task_in (found.Report file asked) = task.Report file.now (report_words asked)
 task_in (found.Reports file list) = task.Reports file.now list.now
 task_in (found.Dump file table) = task.Dump file.now table

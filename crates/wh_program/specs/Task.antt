@@ -4,14 +4,14 @@ use Rattle.wh_policy.specs.declared.attribute.Dim.{Dim}
 use Rattle.wh_policy.specs.Words.{dim_of_word}
 use Rattle.wh_batch.specs.declared.kind.Kind.{Kind}
 use Rattle.wh_batch.specs.declared.kind.CommandKind.{CommandKind}
-use Rattle.wh_batch.specs.Kind.{kind_of_word, command_kind_of}
+use Rattle.wh_batch.specs.Kind.{kind_of_word, command_kind_of_word}
 use Rattle.wh_report.specs.declared.mode.Mode.{Mode}
 use Rattle.wh_report.specs.Words.{mode_of_word}
 use Rattle.std.specs.Option.{option_and_then}
 use Rattle.clap.specs.Words.{IsAmong, Kinds, fault_of, subcommand_of}
 use Rattle.clap.specs.declared.error.kind.ErrorKind.TheVariants.{DisplayHelp, DisplayVersion}
 use Rattle.wh_rows.specs.declared.table.Table.{Table}
-use Rattle.wh_rows.specs.Names.{table_named}
+use Rattle.wh_rows.specs.Names.{table_of_name}
 use Rattle.wh_program.specs.Answer.{no_dimension_line, no_kind_line, no_command_kind_line, no_mode_line, no_table_line}
 use Rattle.wh_program.specs.CommandLine.{CommandLine, program_app, named}
 use Rattle.wh_program.specs.CommandLine as line
@@ -45,16 +45,16 @@ abbrev pub load_asked : (file kind id path : List ℕ) → Result Task (List ℕ
 load_asked file kind id path = ok_or (option_map (λ k. Load file k id path) (kind_of_word kind)) (no_kind_line kind)
 
 abbrev pub plan_asked : (file kind id path : List ℕ) → Result Task (List ℕ)
-plan_asked file kind id path = ok_or (option_map (λ k. Plan file k id path) (command_kind_of kind)) (no_command_kind_line kind)
+plan_asked file kind id path = ok_or (option_map (λ k. Plan file k id path) (command_kind_of_word kind)) (no_command_kind_line kind)
 
 abbrev pub explain_asked : (file kind : List ℕ) → (path : Option (List ℕ)) → Result Task (List ℕ)
-explain_asked file kind path = ok_or (option_map (λ k. Explain file k path) (command_kind_of kind)) (no_command_kind_line kind)
+explain_asked file kind path = ok_or (option_map (λ k. Explain file k path) (command_kind_of_word kind)) (no_command_kind_line kind)
 
 abbrev pub report_asked : (file attribute mode from to : List ℕ) → Result Task (List ℕ)
 report_asked file attribute mode from to = ok_or (option_map (λ m. Report file (record { attribute = attribute; mode = m; from = from; to = to })) (mode_of_word mode)) (no_mode_line mode)
 
 abbrev pub dump_asked : (file table : List ℕ) → Result Task (List ℕ)
-dump_asked file table = ok_or (option_map (λ t. Dump file t) (table_named table)) (no_table_line table)
+dump_asked file table = ok_or (option_map (λ t. Dump file t) (table_of_name table)) (no_table_line table)
 
 -- what the words of a command ask for, or the line that says which of them is none of those that are listed
 abbrev pub task_of : CommandLine → Result Task (List ℕ)

@@ -1,7 +1,7 @@
 -- What the words over a warehouse answer, and what they leave of what stood.
 use Rattle.std.specs.Prelude.{◌≡◌, ◌⊎◌, ⊤, ℕ, List, [], ◌∷◌, Option, Some, None, true, false, Result, Ok, Err, IfOk}
 use Rattle.std.specs.declared.alloc.AllocError.{AllocError}
-use Rattle.wh_policy.specs.Policy.{policy_at}
+use Rattle.wh_policy.specs.Policy.{read_policy}
 use Rattle.wh_policy.specs.declared.fault.PolicyFault.{PolicyFault}
 use Rattle.wh_policy.specs.declared.policy.Policy.{Policy}
 use Rattle.wh_history.specs.Accepted.{Accepted}
@@ -121,13 +121,13 @@ pub record IsCounted (limits : Limits) (commands : List Accepted) (told : Told) 
 -- the warehouse was made
 pub record IsMade (bytes : List ℕ) (told : Told) (after : Standing) : Type 0 where
   pub policy : Policy
-  pub reads : policy_at bytes ≡ Ok policy
+  pub reads : read_policy bytes ≡ Ok policy
   pub then_is : after ≡ Rests (Holds greatest_limits (making_of policy bytes ∷ []))
   pub tells : told ≡ Ok (done made_line)
 
 -- What is left where no warehouse was made in a database with no object in it.
 abbrev pub LeavesUnmade : List ℕ → InitFault → Standing → Type 0
-LeavesUnmade bytes (making.Store cause) after = (policy : Policy) × (policy_at bytes ≡ Ok policy) × (after ≡ LeftAt Nothing (Holds greatest_limits (making_of policy bytes ∷ [])))
+LeavesUnmade bytes (making.Store cause) after = (policy : Policy) × (read_policy bytes ≡ Ok policy) × (after ≡ LeftAt Nothing (Holds greatest_limits (making_of policy bytes ∷ [])))
 LeavesUnmade bytes why after = IsNotMade bytes false why × (after ≡ Rests Nothing)
 
 pub record IsUnmade (bytes : List ℕ) (told : Told) (after : Standing) : Type 0 where
@@ -216,7 +216,7 @@ IsJudged same (Err fault) told = same × IfOk told (λ a. a ≡ refused (policy_
 -- The policy in a file is read and judged before anything is done, and so before the warehouse's name is: what is said of a good one stands elsewhere.
 abbrev pub IsJudgedFirst : Files → (same : Type 0) → (path : List ℕ) → Told → Type 0
 IsJudgedFirst holds same path told =
-    ((bytes : List ℕ) × holds path (Some bytes) × IsJudged same (policy_at bytes) told)
+    ((bytes : List ℕ) × holds path (Some bytes) × IsJudged same (read_policy bytes) told)
     ⊎ (same × IfOk told (λ a. holds path None × (a ≡ failed (no_file_line path))))
 
 abbrev pub AnswersStatus : Refusals → (Standing → Type 0) → DatabaseContent → (file : List ℕ) → Told → Type 0

@@ -20,7 +20,7 @@ use itoa::Buffer;
 use std::alloc::{AllocError, Global};
 use wh_batch::{BadManifest, BatchFault, FaultKind};
 use wh_engine::{
-    Command, Counts, Fault, InitFault, Limit, OpenFault, Receipt, Refused, Reply, Verdict,
+    Command, Counts, Fault, InitFault, Limit, OpenFault, Receipt, Refusal, Reply, Verdict,
 };
 use wh_explain::push_number;
 use wh_plan::Edits;
@@ -297,21 +297,21 @@ fn push_no_sale_line(text: &mut Vec<u8>, number: u64) -> Result<(), AllocError>
 }
 
 /// The line of a command that isn't accepted.
-pub fn push_refused(text: &mut Vec<u8>, why: &Refused) -> Result<(), AllocError>
+pub fn push_refused(text: &mut Vec<u8>, why: &Refusal) -> Result<(), AllocError>
     ensures added { OnOk result (text.new.items ≡ text.old.items ++ refused_line why.now) }
     ensures fits { Fits longest_line result text.old text.new }
 {
     match why {
-        Refused::BadId => text.extend_from_slice(b"refused: E1 bad id\n"),
-        Refused::Reused => text.extend_from_slice(b"refused: E2 id reused\n"),
-        Refused::Batch(fault) => push_batch_line(text, *fault),
-        Refused::Policy(fault) => push_policy_line(text, *fault),
-        Refused::Unfit => text.extend_from_slice(b"refused: E5 policy does not fit\n"),
-        Refused::Upgraded => text.extend_from_slice(b"refused: E6 format, 2\n"),
-        Refused::NameTaken => text.extend_from_slice(b"refused: E11 not empty\n"),
-        Refused::LineThere(number) => push_sale_there_line(text, *number),
-        Refused::NoLine(number) => push_no_sale_line(text, *number),
-        Refused::Full(limit) => push_full_line(text, *limit),
+        Refusal::BadId => text.extend_from_slice(b"refused: E1 bad id\n"),
+        Refusal::Reused => text.extend_from_slice(b"refused: E2 id reused\n"),
+        Refusal::Batch(fault) => push_batch_line(text, *fault),
+        Refusal::Policy(fault) => push_policy_line(text, *fault),
+        Refusal::Unfit => text.extend_from_slice(b"refused: E5 policy does not fit\n"),
+        Refusal::Upgraded => text.extend_from_slice(b"refused: E6 format, 2\n"),
+        Refusal::NameTaken => text.extend_from_slice(b"refused: E11 not empty\n"),
+        Refusal::LineThere(number) => push_sale_there_line(text, *number),
+        Refusal::NoLine(number) => push_no_sale_line(text, *number),
+        Refusal::Full(limit) => push_full_line(text, *limit),
     }
 }
 
@@ -323,7 +323,7 @@ fn push_damaged_line(text: &mut Vec<u8>, table: Table) -> Result<(), AllocError>
 }
 
 /// The answer where this table has a row out of its type.
-pub fn damaged(alloc: Global, table: Table) -> Result<Answer, AllocError>
+pub fn damaged_answer(alloc: Global, table: Table) -> Result<Answer, AllocError>
     ensures { IfOk result (λ answer. answer ≡ failed (damaged_line table)) }
 {
     let mut line = Vec::new(alloc);
@@ -516,7 +516,7 @@ pub fn opening_answer(alloc: Global, fault: OpenFault) -> Result<Answer, AllocEr
         }
         OpenFault::OldFormat => fixed_line(alloc, Status::Failed, "failed: N2 old format\n"),
         OpenFault::NewFormat => fixed_line(alloc, Status::Failed, "failed: N3 new format\n"),
-        OpenFault::Damaged(table) => damaged(alloc, table),
+        OpenFault::Damaged(table) => damaged_answer(alloc, table),
         OpenFault::Memory => Err(AllocError),
         OpenFault::Store(cause) => store_failed(alloc, cause),
     }

@@ -9,7 +9,7 @@ ghost use Rattle.sqlite.specs.Held.{state};
 ghost use Rattle.sqlite.specs.Steps.{over_memory};
 
 use crate::host::{Host, HostError, Visitor, beginning_of};
-use crate::named::{Named, add, find, put, replace};
+use crate::named::{NamedValue, add, find, put, replace};
 use sqlite::{Connection, MemStore};
 use std::alloc::{AllocError, Global};
 use std::io::Write;
@@ -17,11 +17,11 @@ use std::io::Write;
 /// A host of named files in memory, and of warehouses in memory under other names, which stay between runs.
 #[derive(Drop)]
 pub struct MemoryHost {
-    files: Vec<Named<Vec<u8>>>,
+    files: Vec<NamedValue<Vec<u8>>>,
     /// The connections, while they aren't lent. A place stays when its connection is lent, so that taking it back needs no memory.
-    kept: Vec<Named<Option<Connection<MemStore>>>>,
+    kept: Vec<NamedValue<Option<Connection<MemStore>>>>,
     /// The names under which a file of a warehouse was made.
-    made: Vec<Named<()>>,
+    made: Vec<NamedValue<()>>,
 }
 
 impl MemoryHost {
@@ -88,8 +88,8 @@ fn copied(alloc: Global, bytes: &[u8]) -> Result<Vec<u8>, HostError>
 }
 
 /// Makes a place under a name where there is none.
-fn make_place(
-    kept: &mut Vec<Named<Option<Connection<MemStore>>>>,
+fn add_place(
+    kept: &mut Vec<NamedValue<Option<Connection<MemStore>>>>,
     alloc: Global,
     name: &str,
 ) -> Result<(), AllocError>
@@ -103,8 +103,8 @@ fn make_place(
 }
 
 /// Takes the connection out of the place of a name.
-fn taken(
-    kept: &mut [Named<Option<Connection<MemStore>>>],
+fn kept_named(
+    kept: &mut [NamedValue<Option<Connection<MemStore>>>],
     name: &str,
 ) -> Option<Connection<MemStore>>
     ensures was { result ≡ kept_named kept.old name.now }
@@ -119,7 +119,7 @@ fn taken(
 
 /// Takes the connection out of the place of a name. Where it has none, makes one to an empty database.
 fn taken_or_new(
-    kept: &mut [Named<Option<Connection<MemStore>>>],
+    kept: &mut [NamedValue<Option<Connection<MemStore>>>],
     alloc: Global,
     name: &str,
 ) -> Result<Connection<MemStore>, AllocError>
@@ -128,7 +128,7 @@ fn taken_or_new(
     ensures others { (other : List ℕ) → other ≢ name.now → kept_named kept.new other ≡ kept_named kept.old other }
     ensures not_lent { OnErr result ((any : List ℕ) → kept_named kept.new any ≡ kept_named kept.old any) }
 {
-    match taken(kept, name) {
+    match kept_named(kept, name) {
         Some(connection) => Ok(connection),
         None => match Connection::open_in_memory(alloc) {
             Ok(connection) => Ok(connection),
@@ -139,7 +139,7 @@ fn taken_or_new(
 
 /// The connection of a name, to be put back at its place.
 fn lent(
-    kept: &mut Vec<Named<Option<Connection<MemStore>>>>,
+    kept: &mut Vec<NamedValue<Option<Connection<MemStore>>>>,
     alloc: Global,
     name: &str,
 ) -> Result<Connection<MemStore>, AllocError>
@@ -148,13 +148,13 @@ fn lent(
     ensures others { (other : List ℕ) → other ≢ name.now → kept_named kept.new.items other ≡ kept_named kept.old.items other }
     ensures not_lent { OnErr result ((any : List ℕ) → kept_named kept.new.items any ≡ kept_named kept.old.items any) }
 {
-    make_place(kept, alloc, name)?;
+    add_place(kept, alloc, name)?;
     taken_or_new(kept, alloc, name)
 }
 
 /// Puts a connection back at its place.
 fn put_back(
-    kept: &mut Vec<Named<Option<Connection<MemStore>>>>,
+    kept: &mut Vec<NamedValue<Option<Connection<MemStore>>>>,
     name: &str,
     connection: Connection<MemStore>,
 )

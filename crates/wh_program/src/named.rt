@@ -8,7 +8,7 @@ use std::mem;
 
 /// A value under a name.
 #[derive(Drop)]
-pub struct Named<T: Drop> {
+pub struct NamedValue<T: Drop> {
     /// The name.
     pub name: String,
     /// The value.
@@ -16,7 +16,7 @@ pub struct Named<T: Drop> {
 }
 
 /// The value under a name.
-pub fn find<'a, T: Drop>(all: &'a [Named<T>], name: &str) -> Option<&'a T>
+pub fn find<'a, T: Drop>(all: &'a [NamedValue<T>], name: &str) -> Option<&'a T>
     ensures { option_map (λ value. value.now) result ≡ named all.now name.now }
 {
     for item in all {
@@ -28,7 +28,7 @@ pub fn find<'a, T: Drop>(all: &'a [Named<T>], name: &str) -> Option<&'a T>
 }
 
 /// Puts a value in the place of the one under a name, and answers that; where there is none, hands the new one back.
-pub fn replace<T: Drop>(all: &mut [Named<T>], name: &str, value: T) -> Result<T, T>
+pub fn replace<T: Drop>(all: &mut [NamedValue<T>], name: &str, value: T) -> Result<T, T>
     ensures replaced { IfOk result (λ was. (named all.old name.now ≡ Some was) × (named all.new name.now ≡ Some value)) }
     ensures back { IfErr result (λ back. (back ≡ value) × (named all.old name.now ≡ None) × (all.new ≡ all.old)) }
     ensures others { (other : List ℕ) → other ≢ name.now → named all.new other ≡ named all.old other }
@@ -43,7 +43,7 @@ pub fn replace<T: Drop>(all: &mut [Named<T>], name: &str, value: T) -> Result<T,
 
 /// Adds a value after all.
 pub fn add<T: Drop>(
-    all: &mut Vec<Named<T>>,
+    all: &mut Vec<NamedValue<T>>,
     alloc: Global,
     name: &str,
     value: T,
@@ -53,13 +53,13 @@ pub fn add<T: Drop>(
     ensures not_added { OnErr result (all.new.items ≡ all.old.items) }
 {
     let name = String::from_str(alloc, name)?;
-    all.push(Named { name, value })?;
+    all.push(NamedValue { name, value })?;
     Ok(())
 }
 
 /// Puts a value under a name, in the place of the one that was there.
 pub fn put<T: Drop>(
-    all: &mut Vec<Named<T>>,
+    all: &mut Vec<NamedValue<T>>,
     alloc: Global,
     name: &str,
     value: T,

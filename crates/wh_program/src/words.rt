@@ -230,7 +230,7 @@ fn with_operand<'a>(
     command.arg(Arg::new(alloc, name).required(true).help(help))
 }
 
-fn subcommand_of<'a>(alloc: Global, subcommand: &Subcommand<'a>) -> Result<Command<'a>, AllocError>
+fn subcommand_app<'a>(alloc: Global, subcommand: &Subcommand<'a>) -> Result<Command<'a>, AllocError>
     ensures app { IfOk result (λ c. app_of c ≡ subcommand_app subcommand.now) }
     ensures local { IfOk result (λ c. (out-Command c).has_globals ≡ false) }
 {
@@ -244,29 +244,29 @@ fn subcommand_of<'a>(alloc: Global, subcommand: &Subcommand<'a>) -> Result<Comma
 }
 
 /// A trial, the one command that has an option.
-fn trial_command<'a>(alloc: Global) -> Result<Command<'a>, AllocError>
+fn trial_app<'a>(alloc: Global) -> Result<Command<'a>, AllocError>
     ensures app { IfOk result (λ c. app_of c ≡ trial_app) }
     ensures local { IfOk result (λ c. (out-Command c).has_globals ≡ false) }
 {
     let policy = Arg::new(alloc, "POLICY").long("policy").help(
         "the policy, a TOML file; leave it out for one with a few attributes",
     );
-    subcommand_of(alloc, &TRIAL)?.arg(policy)
+    subcommand_app(alloc, &TRIAL)?.arg(policy)
 }
 
 /// An explanation, the one command with an operand that can be left out.
-fn explain_command<'a>(alloc: Global) -> Result<Command<'a>, AllocError>
+fn explain_app<'a>(alloc: Global) -> Result<Command<'a>, AllocError>
     ensures app { IfOk result (λ c. app_of c ≡ explain_app) }
     ensures local { IfOk result (λ c. (out-Command c).has_globals ≡ false) }
 {
     let input = Arg::new(alloc, "INPUT").help(
         "the batch's file, or the new policy's; leave it out to print the header and what each column may hold",
     );
-    subcommand_of(alloc, &EXPLAIN)?.arg(input)
+    subcommand_app(alloc, &EXPLAIN)?.arg(input)
 }
 
 /// The program before it has commands.
-fn top_command<'a>(alloc: Global) -> Result<Command<'a>, AllocError>
+fn top_app<'a>(alloc: Global) -> Result<Command<'a>, AllocError>
     ensures app { IfOk result (λ c. app_of c ≡ top_app) }
     ensures local { IfOk result (λ c. (out-Command c).has_globals ≡ false) }
 {
@@ -276,7 +276,7 @@ fn top_command<'a>(alloc: Global) -> Result<Command<'a>, AllocError>
 }
 
 /// `program` with `subcommands` more, in that order.
-fn with_subcommands<'a>(
+fn with_commands<'a>(
     alloc: Global,
     program: Command<'a>,
     subcommands: &[Subcommand<'a>],
@@ -287,18 +287,18 @@ fn with_subcommands<'a>(
 {
     let mut program = program;
     for subcommand in subcommands {
-        let command = subcommand_of(alloc, subcommand)?;
+        let command = subcommand_app(alloc, subcommand)?;
         program = program.subcommand(command)?;
     }
     Ok(program)
 }
 
 /// The whole program.
-pub fn program_command<'a>(alloc: Global) -> Result<Command<'a>, AllocError>
+pub fn program_app<'a>(alloc: Global) -> Result<Command<'a>, AllocError>
     ensures { IfOk result (λ c. app_of c ≡ program_app) }
 {
-    let trial = trial_command(alloc)?;
-    let explain = explain_command(alloc)?;
-    let program = top_command(alloc)?.subcommand(trial)?.subcommand(explain)?;
-    with_subcommands(alloc, program, SUBCOMMANDS)
+    let trial = trial_app(alloc)?;
+    let explain = explain_app(alloc)?;
+    let program = top_app(alloc)?.subcommand(trial)?.subcommand(explain)?;
+    with_commands(alloc, program, SUBCOMMANDS)
 }

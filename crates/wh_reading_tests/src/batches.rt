@@ -23,7 +23,7 @@ use std::alloc::{AllocError, Global};
 use std::fmt::Write;
 use wh_batch::{
     BadManifest, BatchFault, DimensionRecords, Faults, Kind, ListedFault, ListedReport, Manifest,
-    ManifestEntry, Records, ReportList, SaleRecords, VoidRecords, columns, dimension_records,
+    ManifestEntry, Records, ReportList, SaleRecords, VoidRecords, columns_of, dimension_records,
     faults, lines_above, read, sale_records, void_records,
 };
 use wh_day::{Day, NaturalKey, ParseError, Values};
@@ -344,7 +344,7 @@ fn push_bytes(answer: &mut String, bytes: &[u8]) -> Result<(), AllocError> {
 
 fn push_columns(alloc: Global, answer: &mut String, word: &str) -> Result<(), AllocError> {
     let policy = Policy::trial(alloc)?;
-    let found = columns(alloc, kind(word), &policy, format_of(word))?;
+    let found = columns_of(alloc, kind(word), &policy, format_of(word))?;
     for column in &found {
         answer.push_str(column.name())?;
         write!(answer, " {:?}\n", column.holds())?;

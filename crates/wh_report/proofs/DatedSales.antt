@@ -7,9 +7,9 @@ use Rattle.std.proofs.lemmas.Bool.Decides.{nat_tests}
 use Rattle.std.proofs.lemmas.List.{append-nil}
 use Rattle.wh_day.specs.Reading.{◌>>=◌}
 use Rattle.wh_day.specs.Day.{is_day, year_of}
-use Rattle.wh_day.specs.Calendar.{calendar_row}
+use Rattle.wh_day.specs.Calendar.{date_row}
 use Rattle.wh_policy.specs.Names.{are_kept, fits}
-use Rattle.wh_policy.specs.Policy.{policy_at, trial_policy}
+use Rattle.wh_policy.specs.Policy.{read_policy, trial_policy}
 use Rattle.wh_policy.specs.Years.{is_within}
 use Rattle.wh_policy.specs.declared.attribute.Dim.{Dim}
 use Rattle.wh_policy.specs.declared.fault.PolicyFault.{PolicyFault}
@@ -30,14 +30,14 @@ use Rattle.wh_history.proofs.Basics.{both_true}
 use Rattle.wh_model.specs.Defined.{calendar_at, day_at}
 use Rattle.wh_model.specs.Sound.{making_of}
 use Rattle.wh_model.specs.Sound.{IsGoodSale}
-use Rattle.wh_admission.specs.Admission.{current_policy, of_batch, of_file, records_told, voids_told, content_of, accepted_as, answer, with_content, after_answer, accepted_after, accepted_after_all}
+use Rattle.wh_admission.specs.Admission.{current_policy, of_batch, of_file, judged_records, judged_voids, content_of, accepted_as, answer, with_content, after_answer, accepted_after, accepted_after_all}
 use Rattle.wh_admission.specs.declared.command.Command.{Command}
 use Rattle.wh_batch.specs.declared.kind.CommandKind.{CommandKind}
 use Rattle.wh_batch.specs.declared.kind.CommandKind.TheVariants.{Batch, Migration, Upgrade}
 use Rattle.wh_admission.specs.declared.command.Reply.{Reply}
 use Rattle.wh_admission.specs.declared.command.Reply.TheVariants.{Accepted as Accepts, Already}
-use Rattle.wh_admission.specs.declared.command.Refused.{Refused}
-use Rattle.wh_admission.specs.declared.command.Refused.TheVariants.{Unfit}
+use Rattle.wh_admission.specs.declared.command.Refusal.{Refusal}
+use Rattle.wh_admission.specs.declared.command.Refusal.TheVariants.{Unfit}
 use Rattle.wh_admission.proofs.Admitted.{admitted_sound}
 use Rattle.wh_admission.proofs.Migrated.{policy_with}
 use Rattle.wh_report.specs.Laws.{AdmittedSalesAreDated}
@@ -100,11 +100,11 @@ module _ (commands : List Accepted) (c : Command) (within : IsWithinAll commands
   of_sales (Ok sales) content is e = subst (λ x. IsWithinAll (with_it x)) (ok_is _ _ e) (same_policy (Sells sales) refl (read_within (current_policy commands) (format_of commands) c.bytes sales is))
   of_sales (Err fault) content is e = absurd cc
 
-  of_voids : (r : Result (List VoidRecord) Refused) (content : Content) → (r >>= λ voids. Ok (Withdraws voids)) ≡ Ok content → IsWithinAll (with_it content)
+  of_voids : (r : Result (List VoidRecord) Refusal) (content : Content) → (r >>= λ voids. Ok (Withdraws voids)) ≡ Ok content → IsWithinAll (with_it content)
   of_voids (Ok voids) content e = subst (λ x. IsWithinAll (with_it x)) (ok_is _ _ e) (same_policy (Withdraws voids) refl tt)
   of_voids (Err why) content e = absurd cc
 
-  of_records : (dim : Dim) (r : Result (List DimensionRecord) Refused) (content : Content) → (r >>= λ records. Ok (Describes dim records)) ≡ Ok content → IsWithinAll (with_it content)
+  of_records : (dim : Dim) (r : Result (List DimensionRecord) Refusal) (content : Content) → (r >>= λ records. Ok (Describes dim records)) ≡ Ok content → IsWithinAll (with_it content)
   of_records dim (Ok records) content e = subst (λ x. IsWithinAll (with_it x)) (ok_is _ _ e) (same_policy (Describes dim records) refl tt)
   of_records dim (Err why) content e = absurd cc
 
@@ -117,17 +117,17 @@ module _ (commands : List Accepted) (c : Command) (within : IsWithinAll commands
   of_policy (Err fault) content e = absurd cc
 
   of_kind : (kind : CommandKind) (content : Content) → content_of kind (format_of commands) (current_policy commands) c.bytes ≡ Ok content → IsWithinAll (with_it content)
-  of_kind (Batch (Dimension dim)) content e = of_records dim (records_told dim (current_policy commands) c.bytes) content e
+  of_kind (Batch (Dimension dim)) content e = of_records dim (judged_records dim (current_policy commands) c.bytes) content e
   of_kind (Batch Sales) content e = of_sales (sale_records (current_policy commands) (format_of commands) c.bytes) content refl e
-  of_kind (Batch Voids) content e = of_voids (voids_told (format_of commands) c.bytes) content e
-  of_kind Migration content e = of_policy (policy_at c.bytes) content e
+  of_kind (Batch Voids) content e = of_voids (judged_voids (format_of commands) c.bytes) content e
+  of_kind Migration content e = of_policy (read_policy c.bytes) content e
   of_kind Upgrade content e = subst (λ x. IsWithinAll (with_it x)) (ok_is _ _ e) (same_policy Upgrades refl tt)
 
-  by_content : (r : Result Content Refused) → content_of c.kind (format_of commands) (current_policy commands) c.bytes ≡ r → IsWithinAll (with_content commands c r)
+  by_content : (r : Result Content Refusal) → content_of c.kind (format_of commands) (current_policy commands) c.bytes ≡ r → IsWithinAll (with_content commands c r)
   by_content (Ok content) is = of_kind c.kind content is
   by_content (Err why) is = within
 
-  by_answer : (r : Result Reply Refused) → IsWithinAll (after_answer commands c r)
+  by_answer : (r : Result Reply Refusal) → IsWithinAll (after_answer commands c r)
   by_answer (Ok (Accepts receipt)) = by_content (content_of c.kind (format_of commands) (current_policy commands) c.bytes) refl
   by_answer (Ok (Already receipt)) = within
   by_answer (Err why) = within
@@ -142,7 +142,7 @@ dated : (commands : List Accepted) (o : Option Policy) (day : ℕ) → policy_af
 dated commands None day is some day_is within = absurd cc
 dated commands (Some policy) day is some day_is within =
     let parts = both_true (nat_le policy.years.first (year_of day)) (nat_le (year_of day) policy.years.last) within in
-    let row : day_at policy day ≡ Some (calendar_row policy.holidays day) = rw (day_is, parts.0, parts.1) refl in
+    let row : day_at policy day ≡ Some (date_row policy.holidays day) = rw (day_is, parts.0, parts.1) refl in
     subst IsSome (sym (ap (option_and_then (λ (p : Policy). day_at p day)) is ∙ row)) refl
 
 all_dated : (commands : List Accepted) → IsSome (policy_after None commands) → (sales : List SaleRecord) → AllByRecursion IsGoodSale sales → AreWithin (current_policy commands).years sales → AllByRecursion (λ s. IsSome (calendar_at commands s.day)) sales

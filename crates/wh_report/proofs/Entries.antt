@@ -6,7 +6,7 @@ use Rattle.std.specs.List.{cons_option}
 use Rattle.std.proofs.lemmas.List.{append-nil}
 use Rattle.std.proofs.lemmas.List.Elements.{filter_map-append}
 use Rattle.wh_history.specs.declared.rows.DimRow.{DimRow}
-use Rattle.wh_report.specs.Labels.{entry, first_text, with_text, text_of, row_key, row_text, row_labels, AreLabels}
+use Rattle.wh_report.specs.Labels.{entry, first_text, with_text, labels_get, row_key, row_text, row_labels, AreLabels}
 use Rattle.wh_report.specs.declared.column.LabelColumn.{LabelColumn}
 use Rattle.wh_report.specs.declared.column.LabelColumn.TheVariants.{Main, Second, CurrentMain, FactProfile, CurrentProfile, CalendarMonth, CalendarHoliday}
 
@@ -25,7 +25,7 @@ one-cons_option (Some x) = refl
 pub filter_map-last : {X Y : Type 0} (f : X → Option Y) (xs : List X) (x : X) → filter_map f (xs ++ x ∷ []) ≡ filter_map f xs ++ option_to_list (f x)
 filter_map-last f xs x = filter_map-append f xs (x ∷ []) ∙ ap (λ ys. filter_map f xs ++ ys) (one-cons_option (f x))
 
-pub with_one_more : (old new entries : List (ℕ × List ℕ)) (key : ℕ) (text : List ℕ) → AreLabels old entries → ((k : ℕ) → text_of new k ≡ with_text key text (text_of old) k) → AreLabels new (entries ++ (key, text) ∷ [])
+pub with_one_more : (old new entries : List (ℕ × List ℕ)) (key : ℕ) (text : List ℕ) → AreLabels old entries → ((k : ℕ) → labels_get new k ≡ with_text key text (labels_get old) k) → AreLabels new (entries ++ (key, text) ∷ [])
 with_one_more old new entries key text are put = record {
   found = λ k. put k ∙ ap (λ o. option_or o (cond (key == k) (Some text) None)) (are.found k) ∙ sym (first_text-append k entries ((key, text) ∷ []));
 }
@@ -57,6 +57,6 @@ rows_same column p q same (r ∷ rows) =
     ∙ ap (cons_option (entry (row_key column r) (row_text column q r))) (rows_same column p q same rows)
 
 -- the labels that were made of the profiles, and by them of the rows, are those of the entries of the profiles
-pub labels_through : (column : LabelColumn) (rows : List DimRow) (entries profiles labels : List (ℕ × List ℕ)) → AreLabels profiles entries → AreLabels labels (row_labels column (text_of profiles) rows) → AreLabels labels (row_labels column (λ number. first_text number entries) rows)
+pub labels_through : (column : LabelColumn) (rows : List DimRow) (entries profiles labels : List (ℕ × List ℕ)) → AreLabels profiles entries → AreLabels labels (row_labels column (labels_get profiles) rows) → AreLabels labels (row_labels column (λ number. first_text number entries) rows)
 labels_through column rows entries profiles labels are of =
-    subst (AreLabels labels) (rows_same column (text_of profiles) (λ number. first_text number entries) are.found rows) of
+    subst (AreLabels labels) (rows_same column (labels_get profiles) (λ number. first_text number entries) are.found rows) of

@@ -16,9 +16,9 @@ use Rattle.wh_rows.specs.Tables.{Tables}
 use Rattle.wh_rows.specs.declared.keyed_sale.KeyedSale.{KeyedSale}
 use Rattle.wh_report.specs.Asked.{Asked}
 use Rattle.wh_report.specs.Counting.{counted, measures_of, sales_of, AreLabelled}
-use Rattle.wh_report.specs.Joined.{column_of, fact_key, key_by}
+use Rattle.wh_report.specs.Joined.{column_of, fact_key, label_column_fact_key}
 use Rattle.wh_report.specs.Label.{text_asked}
-use Rattle.wh_report.specs.Labels.{AreLabels, labels_in, text_of}
+use Rattle.wh_report.specs.Labels.{AreLabels, labels_in, labels_get}
 use Rattle.wh_report.specs.Reported.{label_rows, text_at, sold_by_keys, IsSummed, ReportsTables, column_asked}
 use Rattle.wh_report.specs.Request.{has_reading, is_asked_of, subject_reads}
 use Rattle.wh_report.specs.Subject.{subject_in, reading_of}
@@ -32,23 +32,23 @@ use Rattle.wh_report.specs.declared.subject.Subject.{Subject}
 pub counted_same : (r : Asked) (column : LabelColumn) (p q : ℕ → Option (List ℕ)) → ((key : ℕ) → p key ≡ q key) → (facts : List Fact) → filter_map (counted r column p) facts ≡ filter_map (counted r column q) facts
 counted_same r column p q same [] = refl
 counted_same r column p q same (f ∷ facts) =
-    ap (λ o. cons_option (cond (is_asked_of r f.day) (option_map (λ label. record { label = label; measures = measures_of (keyed (key_by column) f) }) o) None) (filter_map (counted r column p) facts)) (same (fact_key column f))
+    ap (λ o. cons_option (cond (is_asked_of r f.day) (option_map (λ label. record { label = label; measures = measures_of (keyed (label_column_fact_key column) f) }) o) None) (filter_map (counted r column p) facts)) (same (fact_key column f))
     ∙ ap (cons_option (counted r column q f)) (counted_same r column p q same facts)
 
 module _ (format : Format) (r : Asked) (column : LabelColumn) (t : Tables) (labels : List (ℕ × List ℕ)) (are : AreLabels labels (labels_in column (label_rows column t))) where
   -- the facts are counted by the labels that were read
-  pub counted_read : filter_map (counted r column (text_of labels)) (values (facts_in format t)) ≡ sold_by_keys format r column t
-  counted_read = counted_same r column (text_of labels) (text_at column t) are.found (values (facts_in format t))
+  pub counted_read : filter_map (counted r column (labels_get labels)) (values (facts_in format t)) ≡ sold_by_keys format r column t
+  counted_read = counted_same r column (labels_get labels) (text_at column t) are.found (values (facts_in format t))
 
-  labelled_read : (sales : List KeyedSale) → AreLabelled (text_of labels) sales → AreLabelled (text_at column t) sales
+  labelled_read : (sales : List KeyedSale) → AreLabelled (labels_get labels) sales → AreLabelled (text_at column t) sales
   labelled_read [] all = tt
   labelled_read (s ∷ sales) all = (subst IsSome (are.found s.key) all.0, labelled_read sales all.1)
 
-  pub text_read : (text : Vec ℕ Global) → text.items ≡ text_asked r (filter_map (counted r column (text_of labels)) (values (facts_in format t))) → AreLabelled (text_of labels) (sales_of r column (values (facts_in format t))) → ReportsTables format r column t (Ok text)
+  pub text_read : (text : Vec ℕ Global) → text.items ≡ text_asked r (filter_map (counted r column (labels_get labels)) (values (facts_in format t))) → AreLabelled (labels_get labels) (sales_of r column (values (facts_in format t))) → ReportsTables format r column t (Ok text)
   text_read text is all = (is ∙ ap (text_asked r) counted_read, labelled_read (sales_of r column (values (facts_in format t))) all)
 
   -- or they can't be counted
-  pub fault_read : (fault : ReportFault) → IsSummed format r column (text_of labels) (values (facts_in format t)) (Err fault) → ReportsTables format r column t (Err fault)
+  pub fault_read : (fault : ReportFault) → IsSummed format r column (labels_get labels) (values (facts_in format t)) (Err fault) → ReportsTables format r column t (Err fault)
   fault_read Write cut = tt
   fault_read (Warehouse fault) cut = tt
   fault_read (Unwritten fault) cut = tt

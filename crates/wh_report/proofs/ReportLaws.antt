@@ -3,11 +3,11 @@ use Rattle.std.proofs.Common.{◌≡◌, ℕ, zero, suc, ◌<◌, Bool, true, fa
 use Rattle.std.specs.Prelude.{filter, filter_map, slice_index_or, slice_get, option_map, Contains, IsSome, IsTrue, All}
 use Rattle.std.specs.Option.{option_and_then}
 use Rattle.std.specs.List.{AllByRecursion, cons_option}
-use Rattle.wh_day.specs.Calendar.{calendar_row}
+use Rattle.wh_day.specs.Calendar.{date_row}
 use Rattle.wh_day.specs.Day.{day_text}
 use Rattle.wh_day.specs.declared.calendar.DateRow.{DateRow}
 use Rattle.wh_day.specs.Holidays.{holiday_text}
-use Rattle.wh_policy.specs.Policy.{attributes_of, types_of}
+use Rattle.wh_policy.specs.Policy.{policy_attributes, policy_types}
 use Rattle.wh_policy.specs.Types.{is_profile, kinds_of}
 use Rattle.wh_policy.specs.Written.{IsSound}
 use Rattle.wh_policy.specs.declared.attribute.Attribute.{Attribute as AttributeRow}
@@ -31,7 +31,7 @@ use Rattle.wh_report.specs.Counting.{counted}
 use Rattle.wh_report.specs.Defined.{AreDefined}
 use Rattle.wh_report.specs.Joined.{column_of, fact_key}
 use Rattle.wh_report.specs.Label.{label, holidays_in, month_text, sold_as_asked, report}
-use Rattle.wh_report.specs.Labels.{LabelRows, labels_in, first_text, date_text, text_of}
+use Rattle.wh_report.specs.Labels.{LabelRows, labels_in, first_text, date_text, labels_get}
 use Rattle.wh_report.specs.Laws.{EndsWith, total_line, TotalsAgree, Reads, LabelsByKeys, SalesAreDated, FactsAreCounted}
 use Rattle.wh_report.specs.Request.{is_asked_of}
 use Rattle.wh_report.specs.Summary.{Sold}
@@ -74,10 +74,10 @@ some_of : (b : Bool) (row : DateRow) → IsSome (cond b (Some row) None) → con
 some_of true row there = refl
 some_of false row there = absurd cc
 
-on_day : (commands : List Accepted) (policy : Policy) (day : ℕ) → policy_after None commands ≡ Some policy → IsSome (calendar_at commands day) → calendar_at commands day ≡ Some (calendar_row policy.holidays day)
+on_day : (commands : List Accepted) (policy : Policy) (day : ℕ) → policy_after None commands ≡ Some policy → IsSome (calendar_at commands day) → calendar_at commands day ≡ Some (date_row policy.holidays day)
 on_day commands policy day governed dated =
     let is : calendar_at commands day ≡ day_at policy day = ap (option_and_then (λ (p : Policy). day_at p day)) governed in
-    is ∙ some_of _ (calendar_row policy.holidays day) (subst IsSome is dated)
+    is ∙ some_of _ (date_row policy.holidays day) (subst IsSome is dated)
 
 -- types 4 and 5 are the customer's alone
 no_profile : (attributes : List AttributeRow) (place : ℕ) (kind : AttributeType) → All (λ a. ¬ IsTrue (is_profile a.kind)) attributes → slice_get (kinds_of attributes) place ≡ Some kind → is_profile kind ≡ true → ⊥
@@ -85,9 +85,9 @@ no_profile [] place kind none is counts = cc
 no_profile (a ∷ attributes) zero kind none is counts = let same : a.kind ≡ kind = some_is _ _ is in none 0 a (omega arith) (ap is_profile same ∙ counts)
 no_profile (a ∷ attributes) (suc place) kind none is counts = no_profile attributes place kind (λ k d within. none (suc k) d (omega arith)) is counts
 
-outside : (policy : Policy) (dim : Dim) (place : ℕ) (kind : AttributeType) → IsSound policy → slice_get (types_of policy dim) place ≡ Some kind → is_profile kind ≡ true → dim ≡ Customer
-outside policy Product place kind sound is counts = absurd (no_profile (attributes_of policy Product) place kind (sound.outside Product (λ e. cc)) is counts)
-outside policy Store place kind sound is counts = absurd (no_profile (attributes_of policy Store) place kind (sound.outside Store (λ e. cc)) is counts)
+outside : (policy : Policy) (dim : Dim) (place : ℕ) (kind : AttributeType) → IsSound policy → slice_get (policy_types policy dim) place ≡ Some kind → is_profile kind ≡ true → dim ≡ Customer
+outside policy Product place kind sound is counts = absurd (no_profile (policy_attributes policy Product) place kind (sound.outside Product (λ e. cc)) is counts)
+outside policy Store place kind sound is counts = absurd (no_profile (policy_attributes policy Store) place kind (sound.outside Store (λ e. cc)) is counts)
 outside policy Customer place kind sound is counts = refl
 
 module _ (limits : Limits) (commands : List Accepted) (ok : IsAccepted limits commands) (words : List ℕ) (mode : Mode) (t : LabelRows) (s : SaleRecord) (good : IsGoodSale s) (named : Named commands s) (dated : IsSome (calendar_at commands s.day)) where
@@ -95,16 +95,16 @@ module _ (limits : Limits) (commands : List Accepted) (ok : IsAccepted limits co
   IsLabelled subject which = first_text (fact_key (column_of subject which) (fact_of commands s)) (labels_in (column_of subject which) t) ≡ Some (label commands subject which s)
 
   labelled : (subject : Subject) (which : Reading) → Reads commands words mode subject which → AreDefined commands (column_of subject which) t → IsLabelled subject which
-  unfolding calendar_row
+  unfolding date_row
   labelled (Attribute a) which reads are =
       let stands = subject_stands reads.policy a words reads.names in
       let is : slice_get (types_in a.dim commands) a.place ≡ Some a.kind = ap (λ (kinds : List AttributeType). slice_get kinds a.place) (types_are a.dim commands reads.policy reads.governed) ∙ stands in
       attribute_found commands s t a.dim a.place a.kind mode which (days limits commands ok) (named a.dim) good.day is (outside reads.policy a.dim a.place a.kind reads.sound stands) reads.shows are
   labelled Month which reads are =
-      found_by_key (λ (d : DateRow). d.date_key) (calendar_at commands) (date_text CalendarMonth) t.days s.day (calendar_row reads.policy.holidays s.day) (month_text s.day) are (on_day commands reads.policy s.day reads.governed dated) refl refl
+      found_by_key (λ (d : DateRow). d.date_key) (calendar_at commands) (date_text CalendarMonth) t.days s.day (date_row reads.policy.holidays s.day) (month_text s.day) are (on_day commands reads.policy s.day reads.governed dated) refl refl
   labelled Holiday which reads are =
       let holidays : holidays_in commands ≡ reads.policy.holidays = rw reads.governed refl in
-      found_by_key (λ (d : DateRow). d.date_key) (calendar_at commands) (date_text CalendarHoliday) t.days s.day (calendar_row reads.policy.holidays s.day) (holiday_text (holidays_in commands) s.day) are (on_day commands reads.policy s.day reads.governed dated) refl (rw holidays refl)
+      found_by_key (λ (d : DateRow). d.date_key) (calendar_at commands) (date_text CalendarHoliday) t.days s.day (date_row reads.policy.holidays s.day) (holiday_text (holidays_in commands) s.day) are (on_day commands reads.policy s.day reads.governed dated) refl (rw holidays refl)
 
 pub labels_by_keys : LabelsByKeys
 labels_by_keys limits commands words mode subject which s t ok reads there dated are =
@@ -140,7 +140,7 @@ sales_labelled limits commands words mode subject which t ok dated reads are =
 
 pub facts_are_counted : FactsAreCounted
 facts_are_counted limits commands subject which r t labels ok dated reads are holds =
-    counted_as commands subject which r (text_of labels) (standing commands)
-    (all_weaker (λ s. first_text (fact_key (column_of subject which) (fact_of commands s)) (labels_in (column_of subject which) t) ≡ Some (label commands subject which s)) (λ s. text_of labels (fact_key (column_of subject which) (fact_of commands s)) ≡ Some (label commands subject which s))
+    counted_as commands subject which r (labels_get labels) (standing commands)
+    (all_weaker (λ s. first_text (fact_key (column_of subject which) (fact_of commands s)) (labels_in (column_of subject which) t) ≡ Some (label commands subject which s)) (λ s. labels_get labels (fact_key (column_of subject which) (fact_of commands s)) ≡ Some (label commands subject which s))
     (λ s has. holds.found (fact_key (column_of subject which) (fact_of commands s)) ∙ has)
     (standing commands) (all_standing (λ s. first_text (fact_key (column_of subject which) (fact_of commands s)) (labels_in (column_of subject which) t) ≡ Some (label commands subject which s)) (withdrawn commands) (sold commands) (sales_labelled limits commands r.words r.mode subject which t ok dated reads are)))

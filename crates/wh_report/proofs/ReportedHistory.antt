@@ -9,7 +9,7 @@ use Rattle.std.specs.declared.vec.Vec.{Vec}
 use Rattle.std.proofs.lemmas.Bool.{and_parts}
 use Rattle.std.proofs.lemmas.Bool.Decides.{nat_tests}
 use Rattle.sqlite.specs.State.{State, HasCleanDisk}
-use Rattle.wh_day.specs.Calendar.{calendar_row}
+use Rattle.wh_day.specs.Calendar.{date_row}
 use Rattle.wh_day.specs.declared.calendar.DateRow.{DateRow}
 use Rattle.wh_policy.specs.declared.attribute.Dim.{Dim}
 use Rattle.wh_policy.specs.declared.attribute.Dim.TheVariants.{Product, Store, Customer}
@@ -86,9 +86,9 @@ dated_in own true d is = sym (some_is own d is)
 dated_in own false d is = absurd cc
 
 dated_by : (o : Option Policy) (day : ℕ) (d : DateRow) → option_and_then (λ policy. day_at policy day) o ≡ Some d → d.date_key ≡ day
-unfolding calendar_row
+unfolding date_row
 dated_by None day d is = absurd cc
-dated_by (Some policy) day d is = ap (λ (own : DateRow). own.date_key) (dated_in (calendar_row policy.holidays day) _ d is)
+dated_by (Some policy) day d is = ap (λ (own : DateRow). own.date_key) (dated_in (date_row policy.holidays day) _ d is)
 
 module _ (limits : Limits) (commands : List Accepted) (t : Tables) (are : AreOf limits commands t) where
   dim_defined : (dim : Dim) → AreRowsOf (λ r. r.surrogate) (dimension_row commands dim) (rows_of_dim dim t)

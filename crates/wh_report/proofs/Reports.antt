@@ -10,7 +10,7 @@ use Rattle.std.proofs.lemmas.Cmp.{nat_list_cmp_total}
 use Rattle.std.proofs.lemmas.List.Elements.{filter-append}
 use Rattle.wh_report.specs.Sums.{Measured, Figures}
 use Rattle.wh_report.specs.Summary.{Sold, by_bytes, sum_of, totals, sold_as, labels_with, labels, summed}
-use Rattle.wh_report.specs.Text.{line_text, lines_text, summed_text, heading, report_text}
+use Rattle.wh_report.specs.Text.{line_text, lines_text, summary_text, heading, report_text}
 use Rattle.wh_report.specs.Laws.{EndsWith, total_line, unlabelled}
 use Rattle.wh_report.proofs.Lines.{summed_of, same_label, turned, lines_by, of_label}
 use Rattle.wh_history.proofs.Records.{or_false}
@@ -34,7 +34,7 @@ totals_unlabelled sales =
     rw (n, q, a, k) refl
 
 pub ends_with_total : (attribute mode from to : List ℕ) (sales : List Sold) → EndsWith (report_text attribute mode from to sales) (total_line (map (λ s. s.measures) sales))
-unfolding report_text summed_text summed total_line
+unfolding report_text summary_text summed total_line
 ends_with_total attribute mode from to sales = record {
   front = heading attribute mode from to ++ lines_text (summed sales).lines;
   is = rw (totals_unlabelled sales) (sym (append_assoc (heading attribute mode from to) (lines_text (summed sales).lines) (line_text (codes "total") (totals sales))));

@@ -15,9 +15,9 @@ use Rattle.wh_rows.specs.declared.keyed_sale.KeyedSale.{KeyedSale}
 use Rattle.wh_policy.specs.declared.format.Format.{Format}
 use Rattle.wh_report.specs.Asked.{Asked}
 use Rattle.wh_report.specs.Counting.{measures_of, with_label, sales_asked, AreLabelled}
-use Rattle.wh_report.specs.Joined.{key_by}
+use Rattle.wh_report.specs.Joined.{label_column_fact_key}
 use Rattle.wh_report.specs.Label.{text_asked}
-use Rattle.wh_report.specs.Labels.{LabelRows, AreLabels, labels_in, text_of}
+use Rattle.wh_report.specs.Labels.{LabelRows, AreLabels, labels_in, labels_get}
 use Rattle.wh_report.specs.Reported.{AreAllFor, label_in, AreAllSales, IsSummedOf, ReportsStored, uncounted}
 use Rattle.wh_report.specs.Summary.{Summed}
 use Rattle.wh_report.specs.Sums.{Figures}
@@ -36,13 +36,13 @@ pub of_request : (r q : Asked) → q ≡ r → (labels : ℕ → Option (List �
     → ((sales : List KeyedSale) → IsTally q sales sums fault → IsCounted q labels sales result) → IsCounted r labels sales result
 of_request r q same labels sales sums fault result tally told = subst (λ (a : Asked). IsCounted a labels sales result) same (told sales (subst (λ (a : Asked). IsTally a sales sums fault) (sym same) tally))
 
-pub summed_stored : (format : Format) (r : Asked) (column : LabelColumn) (labels : ℕ → Option (List ℕ)) (stored : Stored) (which : FactColumn) → which ≡ key_by column → (sales : List KeyedSale) → AreAllSales format which stored sales
+pub summed_stored : (format : Format) (r : Asked) (column : LabelColumn) (labels : ℕ → Option (List ℕ)) (stored : Stored) (which : FactColumn) → which ≡ label_column_fact_key column → (sales : List KeyedSale) → AreAllSales format which stored sales
     → (told : Result Summed FactFault) → IsCounted r labels sales told → (sums : Summed) → told ≡ Ok sums → IsSummedOf format r column labels stored (Ok sums)
 summed_stored format r column labels stored which by sales all told counted sums is =
     let sold = subst (IsCounted r labels sales) is counted in
     (sales, subst (λ (k : FactColumn). AreAllSales format k stored sales) by all, sold.0, sold.1)
 
-pub cut_stored : (format : Format) (r : Asked) (column : LabelColumn) (labels : ℕ → Option (List ℕ)) (stored : Stored) (which : FactColumn) → which ≡ key_by column → (sales : List KeyedSale) → AreAllSales format which stored sales
+pub cut_stored : (format : Format) (r : Asked) (column : LabelColumn) (labels : ℕ → Option (List ℕ)) (stored : Stored) (which : FactColumn) → which ≡ label_column_fact_key column → (sales : List KeyedSale) → AreAllSales format which stored sales
     → (told : Result Summed FactFault) → IsCounted r labels sales told → (fault : FactFault) → told ≡ Err fault → IsSummedOf format r column labels stored (Err (uncounted format column fault))
 cut_stored format r column labels stored which by sales all told counted fault is = of_fault fault (subst (IsCounted r labels sales) is counted)
   where
@@ -85,11 +85,11 @@ labelled_same p q same [] all = tt
 labelled_same p q same (s ∷ sales) all = (subst IsSome (same s.key) all.0, labelled_same p q same sales all.1)
 
 module _ (format : Format) (r : Asked) (column : LabelColumn) (stored : Stored) (labels : List (ℕ × List ℕ)) (t : LabelRows) (all : AreAllFor column stored t) (are : AreLabels labels (labels_in column t)) where
-  pub stored_text : (text : Vec ℕ Global) (sums : Summed) (told : IsSummedOf format r column (text_of labels) stored (Ok sums)) → text.items ≡ text_asked r (filter_map (with_label (text_of labels)) (sales_asked r told.0)) → ReportsStored format r column stored (Ok text)
+  pub stored_text : (text : Vec ℕ Global) (sums : Summed) (told : IsSummedOf format r column (labels_get labels) stored (Ok sums)) → text.items ≡ text_asked r (filter_map (with_label (labels_get labels)) (sales_asked r told.0)) → ReportsStored format r column stored (Ok text)
   stored_text text sums (sales, every, same, labelled) is =
-      (t, all, (sales, every, is ∙ ap (text_asked r) (with_same (text_of labels) (label_in column t) are.found (sales_asked r sales)), labelled_same (text_of labels) (label_in column t) are.found (sales_asked r sales) labelled))
+      (t, all, (sales, every, is ∙ ap (text_asked r) (with_same (labels_get labels) (label_in column t) are.found (sales_asked r sales)), labelled_same (labels_get labels) (label_in column t) are.found (sales_asked r sales) labelled))
 
-  pub stored_fault : (fault : ReportFault) → IsSummedOf format r column (text_of labels) stored (Err fault) → ReportsStored format r column stored (Err fault)
+  pub stored_fault : (fault : ReportFault) → IsSummedOf format r column (labels_get labels) stored (Err fault) → ReportsStored format r column stored (Err fault)
   stored_fault Write cut = tt
   stored_fault (Warehouse fault) cut = tt
   stored_fault (Unwritten fault) cut = tt

@@ -32,7 +32,7 @@ use Rattle.wh_rows.specs.declared.keyed_sale.FactColumn.{FactColumn}
 use Rattle.wh_rows.specs.declared.keyed_sale.KeyedSale.{KeyedSale}
 use Rattle.wh_report.specs.Asked.{Asked}
 use Rattle.wh_report.specs.Counting.{counted, counted_sale, fault_of, measures_of, sales_asked, sales_of, AreLabelled, HasNoLabel}
-use Rattle.wh_report.specs.Joined.{key_by}
+use Rattle.wh_report.specs.Joined.{label_column_fact_key}
 use Rattle.wh_report.specs.KeySums.{AreKeySums, IsLabelled}
 use Rattle.wh_report.specs.Request.{is_asked_of}
 use Rattle.wh_report.specs.Reported.{IsSummed, uncounted}
@@ -106,7 +106,7 @@ last_three a b c d e f g h i j x y z all =
     let quantity = and_parts _ x amount.0 in
     (quantity.1, amount.1, cost.1)
 
-valid_measures : (column : LabelColumn) (f : Fact) → has_good_columns f ≡ true → IsMeasured (measures_of (keyed (key_by column) f))
+valid_measures : (column : LabelColumn) (f : Fact) → has_good_columns f ≡ true → IsMeasured (measures_of (keyed (label_column_fact_key column) f))
 valid_measures column f valid =
     let last = last_three (is_key 20 f.ticket) (is_line f.line) (is_day f.day) (is_number f.keys.store_key) (is_number f.keys.product_key) (is_number f.keys.customer_key) (is_number f.store_durable) (is_number f.product_durable) (is_number f.customer_durable) (is_number f.keys.profile)
     (is_measure 9_999 f.quantity) (is_measure 999_999_999 f.amount) (is_measure 999_999_999 f.cost) valid in
@@ -124,13 +124,13 @@ good_facts : (db : Database) (t : Tables) → Stores db t → (format : Format) 
 good_facts db t stored One = all_good (λ f. f.discount == 0) (entries t.fact) stored.fact.valid
 good_facts db t stored Two = all_good (λ f. is_discount f.discount) (entries t.fact2) (valid_in t.format row.fact2 db.trees t.fact2 stored.fact2)
 
-all_keyed : (column : LabelColumn) (facts : List Fact) → AllByRecursion HasGoodColumns facts → AllByRecursion (λ s. IsMeasured (measures_of s)) (map (keyed (key_by column)) facts)
+all_keyed : (column : LabelColumn) (facts : List Fact) → AllByRecursion HasGoodColumns facts → AllByRecursion (λ s. IsMeasured (measures_of s)) (map (keyed (label_column_fact_key column)) facts)
 all_keyed column [] all = tt
 all_keyed column (f ∷ facts) all = (valid_measures column f all.0, all_keyed column facts all.1)
 
 -- ---- in any order
 
-through : (r : Asked) (column : LabelColumn) (labels : ℕ → Option (List ℕ)) (facts : List Fact) → filter_map (counted_sale r labels) (map (keyed (key_by column)) facts) ≡ filter_map (counted r column labels) facts
+through : (r : Asked) (column : LabelColumn) (labels : ℕ → Option (List ℕ)) (facts : List Fact) → filter_map (counted_sale r labels) (map (keyed (label_column_fact_key column)) facts) ≡ filter_map (counted r column labels) facts
 through r column labels [] = refl
 through r column labels (f ∷ facts) = ap (cons_option (counted r column labels f)) (through r column labels facts)
 
@@ -146,44 +146,44 @@ pub record IsOfFact (r : Asked) (column : LabelColumn) (facts : List Fact) (s : 
   pub fact : Fact
   pub there : Contains facts fact
   pub asked : is_asked_of r fact.day ≡ true
-  pub is : s ≡ keyed (key_by column) fact
+  pub is : s ≡ keyed (label_column_fact_key column) fact
 
 further : (r : Asked) (column : LabelColumn) (f : Fact) (facts : List Fact) (s : KeyedSale) → IsOfFact r column facts s → IsOfFact r column (f ∷ facts) s
 further r column f facts s rest = record { fact = rest.fact; there = Contains-append_right (f ∷ []) facts rest.fact rest.there; asked = rest.asked; is = rest.is }
 
-first_or : (r : Asked) (column : LabelColumn) (f : Fact) (facts : List Fact) (s : KeyedSale) → is_asked_of r f.day ≡ true → (Contains (sales_of r column facts) s → IsOfFact r column facts s) → Contains (keyed (key_by column) f ∷ sales_of r column facts) s → IsOfFact r column (f ∷ facts) s
+first_or : (r : Asked) (column : LabelColumn) (f : Fact) (facts : List Fact) (s : KeyedSale) → is_asked_of r f.day ≡ true → (Contains (sales_of r column facts) s → IsOfFact r column facts s) → Contains (keyed (label_column_fact_key column) f ∷ sales_of r column facts) s → IsOfFact r column (f ∷ facts) s
 first_or r column f facts s asked later (zero, within, is) = record { fact = f; there = (0, omega arith, refl); asked = asked; is = sym is }
 first_or r column f facts s asked later (suc k, within, is) = further r column f facts s (later (k, omega arith, is))
 
 pub sale_of_fact : (r : Asked) (column : LabelColumn) (facts : List Fact) (s : KeyedSale) → Contains (sales_of r column facts) s → IsOfFact r column facts s
 sale_of_fact r column [] s there = let within = there.1 in absurd (omega arith)
 sale_of_fact r column (f ∷ facts) s there =
-    elim (is_asked_of r f.day) as (λ b. (is_asked_of r f.day ≡ b) → Contains (cond b (keyed (key_by column) f ∷ sales_of r column facts) (sales_of r column facts)) s → IsOfFact r column (f ∷ facts) s) [
+    elim (is_asked_of r f.day) as (λ b. (is_asked_of r f.day ≡ b) → Contains (cond b (keyed (label_column_fact_key column) f ∷ sales_of r column facts) (sales_of r column facts)) s → IsOfFact r column (f ∷ facts) s) [
       | true ↦ λ within here. first_or r column f facts s within (sale_of_fact r column facts s) here
       | false ↦ λ other later. further r column f facts s (sale_of_fact r column facts s later)
     ] refl there
 
 -- and each fact of the range has its sale
-fact_in_sales : (r : Asked) (column : LabelColumn) (facts : List Fact) (f : Fact) → Contains facts f → is_asked_of r f.day ≡ true → Contains (sales_of r column facts) (keyed (key_by column) f)
+fact_in_sales : (r : Asked) (column : LabelColumn) (facts : List Fact) (f : Fact) → Contains facts f → is_asked_of r f.day ≡ true → Contains (sales_of r column facts) (keyed (label_column_fact_key column) f)
 fact_in_sales r column [] f there asked = let within = there.1 in absurd (omega arith)
 fact_in_sales r column (g ∷ facts) f (zero, within, is) asked =
-    subst (λ (h : Fact). Contains (cond (is_asked_of r h.day) (keyed (key_by column) h ∷ sales_of r column facts) (sales_of r column facts)) (keyed (key_by column) f)) (sym is)
-    (subst (λ b. Contains (cond b (keyed (key_by column) f ∷ sales_of r column facts) (sales_of r column facts)) (keyed (key_by column) f)) (sym asked) (0, omega arith, refl))
+    subst (λ (h : Fact). Contains (cond (is_asked_of r h.day) (keyed (label_column_fact_key column) h ∷ sales_of r column facts) (sales_of r column facts)) (keyed (label_column_fact_key column) f)) (sym is)
+    (subst (λ b. Contains (cond b (keyed (label_column_fact_key column) f ∷ sales_of r column facts) (sales_of r column facts)) (keyed (label_column_fact_key column) f)) (sym asked) (0, omega arith, refl))
 fact_in_sales r column (g ∷ facts) f (suc k, within, is) asked =
     let rest = fact_in_sales r column facts f (k, omega arith, is) asked in
-    elim (is_asked_of r g.day) as (λ b. Contains (cond b (keyed (key_by column) g ∷ sales_of r column facts) (sales_of r column facts)) (keyed (key_by column) f)) [
-      | true ↦ Contains-append_right (keyed (key_by column) g ∷ []) (sales_of r column facts) (keyed (key_by column) f) rest
+    elim (is_asked_of r g.day) as (λ b. Contains (cond b (keyed (label_column_fact_key column) g ∷ sales_of r column facts) (sales_of r column facts)) (keyed (label_column_fact_key column) f)) [
+      | true ↦ Contains-append_right (keyed (label_column_fact_key column) g ∷ []) (sales_of r column facts) (keyed (label_column_fact_key column) f) rest
       | false ↦ rest
     ]
 
 -- a fact of the range leads to a label
 abbrev HasLabel : Asked → LabelColumn → (ℕ → Option (List ℕ)) → Fact → Type 0
-HasLabel r column labels f = is_asked_of r f.day ≡ true → IsSome (labels (keyed (key_by column) f).key)
+HasLabel r column labels f = is_asked_of r f.day ≡ true → IsSome (labels (keyed (label_column_fact_key column) f).key)
 
 facts_labelled : (r : Asked) (column : LabelColumn) (labels : ℕ → Option (List ℕ)) (facts : List Fact) → AreLabelled labels (sales_of r column facts) → AllByRecursion (HasLabel r column labels) facts
 facts_labelled r column labels [] all = tt
 facts_labelled r column labels (f ∷ facts) all =
-    elim (is_asked_of r f.day) as (λ b. AreLabelled labels (cond b (keyed (key_by column) f ∷ sales_of r column facts) (sales_of r column facts)) → (b ≡ true → IsSome (labels (keyed (key_by column) f).key)) × AllByRecursion (HasLabel r column labels) facts) [
+    elim (is_asked_of r f.day) as (λ b. AreLabelled labels (cond b (keyed (label_column_fact_key column) f ∷ sales_of r column facts) (sales_of r column facts)) → (b ≡ true → IsSome (labels (keyed (label_column_fact_key column) f).key)) × AllByRecursion (HasLabel r column labels) facts) [
       | true ↦ λ own. (λ _. own.0, facts_labelled r column labels facts own.1)
       | false ↦ λ own. (λ is. absurd cc, facts_labelled r column labels facts own)
     ] all
@@ -191,12 +191,12 @@ facts_labelled r column labels (f ∷ facts) all =
 sales_labelled : (r : Asked) (column : LabelColumn) (labels : ℕ → Option (List ℕ)) (facts : List Fact) → AllByRecursion (HasLabel r column labels) facts → AreLabelled labels (sales_of r column facts)
 sales_labelled r column labels [] all = tt
 sales_labelled r column labels (f ∷ facts) all =
-    elim (is_asked_of r f.day) as (λ b. (b ≡ true → IsSome (labels (keyed (key_by column) f).key)) → AreLabelled labels (cond b (keyed (key_by column) f ∷ sales_of r column facts) (sales_of r column facts))) [
+    elim (is_asked_of r f.day) as (λ b. (b ≡ true → IsSome (labels (keyed (label_column_fact_key column) f).key)) → AreLabelled labels (cond b (keyed (label_column_fact_key column) f ∷ sales_of r column facts) (sales_of r column facts))) [
       | true ↦ λ own. (own refl, sales_labelled r column labels facts all.1)
       | false ↦ λ own. sales_labelled r column labels facts all.1
     ] all.0
 
-module _ (format : Format) (r : Asked) (column : LabelColumn) (labels : ℕ → Option (List ℕ)) (st : State) (t : Tables) (at : IsAtRest (Some t) st) (which : FactColumn) (leads : which ≡ key_by column) (ordered : List Fact) (same : IsPermutation ordered (values (facts_in format t))) where
+module _ (format : Format) (r : Asked) (column : LabelColumn) (labels : ℕ → Option (List ℕ)) (st : State) (t : Tables) (at : IsAtRest (Some t) st) (which : FactColumn) (leads : which ≡ label_column_fact_key column) (ordered : List Fact) (same : IsPermutation ordered (values (facts_in format t))) where
   labelled_too : AreLabelled labels (sales_of r column ordered) → AreLabelled labels (sales_of r column (values (facts_in format t)))
   labelled_too all =
       sales_labelled r column labels (values (facts_in format t)) (recursion_from_All (HasLabel r column labels) (values (facts_in format t))
@@ -211,29 +211,29 @@ module _ (format : Format) (r : Asked) (column : LabelColumn) (labels : ℕ → 
   -- the facts come to what was counted of them
   facts_summed : (sums : Summed) → IsLabelled labels (sales_of r column ordered) (Ok sums) → IsSummed format r column labels (values (facts_in format t)) (Ok sums)
   facts_summed sums are = (
-    are.0 ∙ ap summed (asked_counted r labels (map (keyed (key_by column)) ordered) ∙ through r column labels ordered)
+    are.0 ∙ ap summed (asked_counted r labels (map (keyed (label_column_fact_key column)) ordered) ∙ through r column labels ordered)
         ∙ sym (any_order (filter_map (counted r column labels) ordered) (filter_map (counted r column labels) (values (facts_in format t))) (reordered (counted r column labels) ordered (values (facts_in format t)) same)),
     labelled_too are.1,
   )
 
   -- or they can't be counted
-  facts_cut : (f : FactFault) → IsCounted r labels (map (keyed (key_by column)) ordered) (Err f) → IsSummed format r column labels (values (facts_in format t)) (Err (uncounted format column f))
+  facts_cut : (f : FactFault) → IsCounted r labels (map (keyed (label_column_fact_key column)) ordered) (Err f) → IsSummed format r column labels (values (facts_in format t)) (Err (uncounted format column f))
   facts_cut uncountable.Memory cut = tt
   facts_cut uncountable.NoLabel cut = inl (refl, lacks_too cut)
   facts_cut uncountable.Damaged cut =
       let valid = good_facts st.now t at.now.tables format in
       let all = all_keyed column ordered (recursion_from_All HasGoodColumns ordered (All-permutation HasGoodColumns (values (facts_in format t)) ordered (IsPermutation-sym ordered (values (facts_in format t)) same) (All-from_recursion HasGoodColumns (values (facts_in format t)) valid))) in
       let most = cut all in
-      inr (refl, omega (arith, length_permutation ordered (values (facts_in format t)) same, length-map ordered (keyed (key_by column)), most))
+      inr (refl, omega (arith, length_permutation ordered (values (facts_in format t)) same, length-map ordered (keyed (label_column_fact_key column)), most))
 
   module _ (q : Asked) (same_request : q ≡ r) (sums : List (ℕ × Figures)) (fault : Option AddError) (tally : IsTally r (map (keyed which) ordered) sums fault) (result : Result Summed FactFault) (told : (sales : List KeyedSale) → IsTally q sales sums fault → IsCounted q labels sales result) where
-    counted_by_labels : IsCounted r labels (map (keyed (key_by column)) ordered) result
+    counted_by_labels : IsCounted r labels (map (keyed (label_column_fact_key column)) ordered) result
     counted_by_labels =
         subst₂ (λ (a : Asked) (w : FactColumn). IsCounted a labels (map (keyed w) ordered) result) same_request leads
         (told (map (keyed which) ordered) (subst (λ (a : Asked). IsTally a (map (keyed which) ordered) sums fault) (sym same_request) tally))
 
     pub summed_by_labels : (made : Summed) → result ≡ Ok made → IsSummed format r column labels (values (facts_in format t)) (Ok made)
-    summed_by_labels made is = facts_summed made (subst (IsCounted r labels (map (keyed (key_by column)) ordered)) is counted_by_labels)
+    summed_by_labels made is = facts_summed made (subst (IsCounted r labels (map (keyed (label_column_fact_key column)) ordered)) is counted_by_labels)
 
     pub cut_by_labels : (f : FactFault) → result ≡ Err f → IsSummed format r column labels (values (facts_in format t)) (Err (uncounted format column f))
-    cut_by_labels f is = facts_cut f (subst (IsCounted r labels (map (keyed (key_by column)) ordered)) is counted_by_labels)
+    cut_by_labels f is = facts_cut f (subst (IsCounted r labels (map (keyed (label_column_fact_key column)) ordered)) is counted_by_labels)

@@ -8,11 +8,11 @@ use Rattle.wh_policy.specs.declared.policy.Policy.{Policy}
 use Rattle.wh_policy.specs.Policy.{described}
 use Rattle.wh_policy.proofs.OnLiterals.{policy_on_literals}
 use Rattle.wh_report.specs.Laws.{over_lines}
-use Rattle.wh_report.specs.Request.{asked, is_asked_of}
+use Rattle.wh_report.specs.Request.{read_request, is_asked_of}
 use Rattle.wh_report.specs.Subject.{subject_in}
 use Rattle.wh_report.specs.Summary.{Sold, summed}
 use Rattle.wh_report.specs.Sums.{margin}
-use Rattle.wh_report.specs.Text.{aligned, hundredths, money, line_text, summed_text, heading, report_text}
+use Rattle.wh_report.specs.Text.{aligned, hundredths, money, line_text, summary_text, heading, report_text}
 use Rattle.wh_report.specs.Words.{mode_of_word}
 use Rattle.wh_report.specs.declared.mode.Mode.TheVariants.{Was, Is, Prior}
 use Rattle.wh_report.specs.declared.request.RequestFault.TheVariants.{NoAttribute, NoReading, NoDateReading, BadRange}
@@ -67,36 +67,36 @@ by_year = refl
 
 -- a request, and the faults: no reading comes before no range, and no attribute before both
 
-asked_for_categories : asked policy (codes "product.category") Is (codes "2023-01-01") (codes "2026-12-31") ≡ Ok (record { words = codes "product.category"; mode = Is; from = 20230101; to = 20261231 })
-unfolding asked subject_in policy_on_literals
+asked_for_categories : read_request policy (codes "product.category") Is (codes "2023-01-01") (codes "2026-12-31") ≡ Ok (record { words = codes "product.category"; mode = Is; from = 20230101; to = 20261231 })
+unfolding read_request subject_in policy_on_literals
 asked_for_categories = refl
 
-one_day : asked policy (codes "date.holiday") Was (codes "2024-02-29") (codes "2024-02-29") ≡ Ok (record { words = codes "date.holiday"; mode = Was; from = 20240229; to = 20240229 })
-unfolding asked subject_in policy_on_literals
+one_day : read_request policy (codes "date.holiday") Was (codes "2024-02-29") (codes "2024-02-29") ≡ Ok (record { words = codes "date.holiday"; mode = Was; from = 20240229; to = 20240229 })
+unfolding read_request subject_in policy_on_literals
 one_day = refl
 
-brands_as_they_are : asked policy (codes "product.brand") Is (codes "2023-01-01") (codes "2026-12-31") ≡ Err (NoReading NewRow Is)
-unfolding asked subject_in policy_on_literals
+brands_as_they_are : read_request policy (codes "product.brand") Is (codes "2023-01-01") (codes "2026-12-31") ≡ Err (NoReading NewRow Is)
+unfolding read_request subject_in policy_on_literals
 brands_as_they_are = refl
 
-suppliers_as_they_were : asked policy (codes "product.supplier") Was (codes "2023-01-01") (codes "2022-12-31") ≡ Err (NoReading NewAttribute Was)
-unfolding asked subject_in policy_on_literals
+suppliers_as_they_were : read_request policy (codes "product.supplier") Was (codes "2023-01-01") (codes "2022-12-31") ≡ Err (NoReading NewAttribute Was)
+unfolding read_request subject_in policy_on_literals
 suppliers_as_they_were = refl
 
-months_before : asked policy (codes "date.month") Prior (codes "2023-01-01") (codes "2026-12-31") ≡ Err (NoDateReading Prior)
-unfolding asked subject_in policy_on_literals
+months_before : read_request policy (codes "date.month") Prior (codes "2023-01-01") (codes "2026-12-31") ≡ Err (NoDateReading Prior)
+unfolding read_request subject_in policy_on_literals
 months_before = refl
 
-no_attribute : asked policy (codes "product.city") Prior (codes "2023-01-01") (codes "x") ≡ Err NoAttribute
-unfolding asked subject_in policy_on_literals
+no_attribute : read_request policy (codes "product.city") Prior (codes "2023-01-01") (codes "x") ≡ Err NoAttribute
+unfolding read_request subject_in policy_on_literals
 no_attribute = refl
 
-last_before_first : asked policy (codes "date.month") Was (codes "2024-01-02") (codes "2024-01-01") ≡ Err BadRange
-unfolding asked subject_in policy_on_literals
+last_before_first : read_request policy (codes "date.month") Was (codes "2024-01-02") (codes "2024-01-01") ≡ Err BadRange
+unfolding read_request subject_in policy_on_literals
 last_before_first = refl
 
-no_such_day : asked policy (codes "date.month") Was (codes "2023-02-28") (codes "2023-02-29") ≡ Err BadRange
-unfolding asked subject_in policy_on_literals
+no_such_day : read_request policy (codes "date.month") Was (codes "2023-02-28") (codes "2023-02-29") ≡ Err BadRange
+unfolding read_request subject_in policy_on_literals
 no_such_day = refl
 
 -- both days are included
@@ -121,7 +121,7 @@ by_age_band : report_text (codes "customer.age_band") (codes "was") (codes "2023
     ++ codes "       2          3           7.50           4.80           2.70  (no card)\n"
     ++ codes "       1          1          10.00           7.00           3.00  30-39\n"
     ++ codes "       3          4          17.50          11.80           5.70  total\n"
-unfolding report_text heading summed summed_text line_text money hundredths aligned digits
+unfolding report_text heading summed summary_text line_text money hundredths aligned digits
 by_age_band = refl
 
 -- the two lines of the first report add up to its total
@@ -146,7 +146,7 @@ by_category_as_it_was : report_text (codes "product.category") (codes "was") (co
     ≡ codes "report product.category was 2023-01-01 2026-12-31\n" ++ titles
     ++ codes "       4          5          20.00          13.40           6.60  Drinks\n"
     ++ codes "       4          5          20.00          13.40           6.60  total\n"
-unfolding report_text heading summed summed_text line_text money hundredths aligned digits
+unfolding report_text heading summed summary_text line_text money hundredths aligned digits
 by_category_as_it_was = refl
 
 by_category_as_it_is : report_text (codes "product.category") (codes "is") (codes "2023-01-01") (codes "2026-12-31")
@@ -155,7 +155,7 @@ by_category_as_it_is : report_text (codes "product.category") (codes "is") (code
     ++ codes "       1          1          10.00           7.00           3.00  Drinks\n"
     ++ codes "       3          4          10.00           6.40           3.60  Soft drinks\n"
     ++ codes "       4          5          20.00          13.40           6.60  total\n"
-unfolding report_text heading summed summed_text line_text money hundredths aligned digits
+unfolding report_text heading summed summary_text line_text money hundredths aligned digits
 by_category_as_it_is = refl
 
 by_supplier : report_text (codes "product.supplier") (codes "prior") (codes "2023-01-01") (codes "2026-12-31")
@@ -164,7 +164,7 @@ by_supplier : report_text (codes "product.supplier") (codes "prior") (codes "202
     ++ codes "       1          1          10.00           7.00           3.00  (none)\n"
     ++ codes "       3          4          10.00           6.40           3.60  East\n"
     ++ codes "       4          5          20.00          13.40           6.60  total\n"
-unfolding report_text heading summed summed_text line_text money hundredths aligned digits
+unfolding report_text heading summed summary_text line_text money hundredths aligned digits
 by_supplier = refl
 
 by_month_as_it_was : report_text (codes "date.month") (codes "was") (codes "2023-01-01") (codes "2026-12-31")
@@ -174,14 +174,14 @@ by_month_as_it_was : report_text (codes "date.month") (codes "was") (codes "2023
     ++ codes "       2          3           7.50           4.80           2.70  2024-02\n"
     ++ codes "       1          1          10.00           7.00           3.00  2024-06\n"
     ++ codes "       4          5          20.00          13.40           6.60  total\n"
-unfolding report_text heading summed summed_text line_text money hundredths aligned digits
+unfolding report_text heading summed summary_text line_text money hundredths aligned digits
 by_month_as_it_was = refl
 
 -- no sale is in the range
 of_no_sale : report_text (codes "product.category") (codes "is") (codes "2025-01-01") (codes "2025-12-31") []
     ≡ codes "report product.category is 2025-01-01 2025-12-31\n" ++ titles
     ++ codes "       0          0           0.00           0.00           0.00  total\n"
-unfolding report_text heading summed summed_text line_text money hundredths aligned digits
+unfolding report_text heading summed summary_text line_text money hundredths aligned digits
 of_no_sale = refl
 
 -- goods that were given back

@@ -5,7 +5,7 @@ use Rattle.std.specs.Fmt.{digits}
 use Rattle.csv.specs.Writing.{escaped, fields_text, is_blank}
 use Rattle.hex.specs.Hex.{encode_with}
 use Rattle.wh_day.proofs.OnLiterals.{day_on_literals}
-use Rattle.wh_day.specs.Calendar.{calendar_row}
+use Rattle.wh_day.specs.Calendar.{date_row}
 use Rattle.wh_policy.specs.declared.attribute.Dim.TheVariants.{Customer}
 use Rattle.wh_rows.specs.Rows as row
 use Rattle.wh_report.specs.Dump.{header_line, row_line}
@@ -58,7 +58,7 @@ a_profile : row_line row.profile (record { number = 2; values = [] ∷ codes "30
 unfolding escaped fields_text is_blank digits
 a_profile = refl
 
-a_leap_day : row_line row.calendar (calendar_row [] 20240229) ≡ codes "20240229,2024-02-29,2024,1,2,29,60,4,Thursday,0,(none)\n"
+a_leap_day : row_line row.calendar (date_row [] 20240229) ≡ codes "20240229,2024-02-29,2024,1,2,29,60,4,Thursday,0,(none)\n"
 unfolding day_on_literals escaped fields_text is_blank digits
 a_leap_day = refl
 

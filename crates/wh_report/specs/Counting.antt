@@ -5,7 +5,7 @@ use Rattle.wh_history.specs.declared.facts.Fact.{Fact}
 use Rattle.wh_rows.specs.KeyedSales.{keyed}
 use Rattle.wh_rows.specs.declared.keyed_sale.KeyedSale.{KeyedSale}
 use Rattle.wh_report.specs.Asked.{Asked}
-use Rattle.wh_report.specs.Joined.{key_by}
+use Rattle.wh_report.specs.Joined.{label_column_fact_key}
 use Rattle.wh_report.specs.Request.{is_asked_of}
 use Rattle.wh_report.specs.Summary.{Sold}
 use Rattle.wh_report.specs.Sums.{Measured}
@@ -38,7 +38,7 @@ counted_sale r labels s = if is_asked_of r s.day then with_label labels s else N
 
 -- the same of a fact, by the key that leads to a column
 abbrev pub counted : Asked → LabelColumn → (ℕ → Option (List ℕ)) → Fact → Option Sold
-counted r column labels f = counted_sale r labels (keyed (key_by column) f)
+counted r column labels f = counted_sale r labels (keyed (label_column_fact_key column) f)
 
 -- the sales of the range
 abbrev pub sales_asked : Asked → List KeyedSale → List KeyedSale
@@ -46,7 +46,7 @@ sales_asked r = filter (λ s. is_asked_of r s.day)
 
 -- those that facts are, by the key that leads to a column
 abbrev pub sales_of : Asked → LabelColumn → List Fact → List KeyedSale
-sales_of r column facts = sales_asked r (map (keyed (key_by column)) facts)
+sales_of r column facts = sales_asked r (map (keyed (label_column_fact_key column)) facts)
 
 -- a sale that can't be counted is a fact that no warehouse keeps
 abbrev pub fault_of : AddError → FactFault

@@ -52,17 +52,17 @@ column_of Month which = CalendarMonth
 column_of Holiday which = CalendarHoliday
 
 -- the key by which a fact names the row of its label
-abbrev pub key_by : LabelColumn → FactColumn
-key_by (Main dim place) = Surrogate dim
-key_by (Second dim place) = Surrogate dim
-key_by (CurrentMain dim place) = Durable dim
-key_by (FactProfile place) = Profile
-key_by (CurrentProfile place) = Durable Customer
-key_by CalendarMonth = Day
-key_by CalendarHoliday = Day
+abbrev pub label_column_fact_key : LabelColumn → FactColumn
+label_column_fact_key (Main dim place) = Surrogate dim
+label_column_fact_key (Second dim place) = Surrogate dim
+label_column_fact_key (CurrentMain dim place) = Durable dim
+label_column_fact_key (FactProfile place) = Profile
+label_column_fact_key (CurrentProfile place) = Durable Customer
+label_column_fact_key CalendarMonth = Day
+label_column_fact_key CalendarHoliday = Day
 
 abbrev pub fact_key : LabelColumn → Fact → ℕ
-fact_key column f = key_of (key_by column) f
+fact_key column f = key_of (label_column_fact_key column) f
 
 -- the table that has the column
 abbrev pub table_of_dim : Dim → Table
@@ -70,11 +70,11 @@ table_of_dim Product = table.Product
 table_of_dim Store = table.Store
 table_of_dim Customer = table.Customer
 
-abbrev pub table_of : LabelColumn → Table
-table_of (Main dim place) = table_of_dim dim
-table_of (Second dim place) = table_of_dim dim
-table_of (CurrentMain dim place) = table_of_dim dim
-table_of (FactProfile place) = table.Profile
-table_of (CurrentProfile place) = table.Customer
-table_of CalendarMonth = table.Calendar
-table_of CalendarHoliday = table.Calendar
+abbrev pub label_column_table : LabelColumn → Table
+label_column_table (Main dim place) = table_of_dim dim
+label_column_table (Second dim place) = table_of_dim dim
+label_column_table (CurrentMain dim place) = table_of_dim dim
+label_column_table (FactProfile place) = table.Profile
+label_column_table (CurrentProfile place) = table.Customer
+label_column_table CalendarMonth = table.Calendar
+label_column_table CalendarHoliday = table.Calendar

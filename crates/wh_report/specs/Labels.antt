@@ -12,8 +12,8 @@ use Rattle.wh_report.specs.declared.column.LabelColumn.{LabelColumn}
 use Rattle.wh_report.specs.declared.column.LabelColumn.TheVariants.{Main, Second, CurrentMain, FactProfile, CurrentProfile, CalendarMonth, CalendarHoliday}
 
 -- the text that a map has under a key
-abbrev pub text_of : List (ℕ × List ℕ) → ℕ → Option (List ℕ)
-text_of labels key = lookup (is_at (nat_cmp key)) labels
+abbrev pub labels_get : List (ℕ × List ℕ) → ℕ → Option (List ℕ)
+labels_get labels key = lookup (is_at (nat_cmp key)) labels
 
 -- with a text under a key, unless there is one
 abbrev pub with_text : ℕ → List ℕ → (ℕ → Option (List ℕ)) → ℕ → Option (List ℕ)
@@ -32,7 +32,7 @@ first_text key (e ∷ entries) = if e.0 == key then Some e.1 else first_text key
 
 -- the labels are those of these entries
 pub record AreLabels (labels entries : List (ℕ × List ℕ)) : Type 0 where
-  pub found : (key : ℕ) → text_of labels key ≡ first_text key entries
+  pub found : (key : ℕ) → labels_get labels key ≡ first_text key entries
 
 -- ---- rows of a dimension
 

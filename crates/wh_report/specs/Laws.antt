@@ -16,7 +16,7 @@ use Rattle.wh_report.specs.Counting.{counted}
 use Rattle.wh_report.specs.Defined.{AreDefined}
 use Rattle.wh_report.specs.Joined.{column_of, fact_key}
 use Rattle.wh_report.specs.Label.{label, labelled, sold_as_asked, report}
-use Rattle.wh_report.specs.Labels.{LabelRows, labels_in, first_text, text_of, AreLabels}
+use Rattle.wh_report.specs.Labels.{LabelRows, labels_in, first_text, labels_get, AreLabels}
 use Rattle.wh_report.specs.Request.{is_asked_of}
 use Rattle.wh_report.specs.Subject.{subject_in, reading_of}
 use Rattle.wh_report.specs.Sums.{Measured, Figures, margin}
@@ -103,7 +103,7 @@ FactsAreCounted = (limits : Limits) (commands : List Accepted) (subject : Subjec
     → Reads commands r.words r.mode subject which
     → AreDefined commands (column_of subject which) t
     → AreLabels labels (labels_in (column_of subject which) t)
-    → filter_map (counted r (column_of subject which) (text_of labels)) (map (fact_of commands) (standing commands)) ≡ sold_as_asked commands subject which r
+    → filter_map (counted r (column_of subject which) (labels_get labels)) (map (fact_of commands) (standing commands)) ≡ sold_as_asked commands subject which r
 
 -- And so it is of each list of commands that came about by admission: a batch of sales is read within the years of the policy in force, and no later policy loses a year.
 abbrev pub AdmittedSalesAreDated : Type 0

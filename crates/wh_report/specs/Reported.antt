@@ -14,7 +14,7 @@ use Rattle.wh_history.specs.Accepted.{Accepted}
 use Rattle.wh_history.specs.declared.facts.Fact.{Fact}
 use Rattle.wh_history.specs.declared.rows.DimRow.{DimRow}
 use Rattle.wh_rows.specs.Holds.{Layout}
-use Rattle.wh_rows.specs.KeyedSales.{columns_of, shown_of}
+use Rattle.wh_rows.specs.KeyedSales.{read_keyed_sale, shown_of}
 use Rattle.wh_rows.specs.Raw.{Stored}
 use Rattle.wh_rows.specs.Rows as row
 use Rattle.wh_policy.specs.declared.format.Format.{Format}
@@ -33,7 +33,7 @@ use Rattle.wh_engine.specs.declared.fault.Fault.TheVariants as faults
 use Rattle.wh_report.specs.Asked.{Asked}
 use Rattle.wh_report.specs.Counting.{measures_of, with_label, counted, sales_asked, sales_of, AreLabelled, HasNoLabel}
 use Rattle.wh_report.specs.Dumped.{BeginsWith}
-use Rattle.wh_report.specs.Joined.{column_of, key_by, table_of, table_of_dim}
+use Rattle.wh_report.specs.Joined.{column_of, label_column_fact_key, label_column_table, table_of_dim}
 use Rattle.wh_report.specs.Label.{report, text_asked}
 use Rattle.wh_report.specs.Labels.{LabelRows, labels_in, first_text}
 use Rattle.wh_report.specs.Subject.{subject_in, reading_of}
@@ -83,7 +83,7 @@ sold_by_keys format r column t = filter_map (counted r column (text_at column t)
 
 -- a row that a fact of the range names is missing in the table that is found; or that is the facts', and it has more than can be counted
 abbrev pub IsInconsistent : Format → Asked → LabelColumn → (ℕ → Option (List ℕ)) → List Fact → Table → Type 0
-IsInconsistent format r column labels facts found = ((found ≡ table_of column) × HasNoLabel labels (sales_of r column facts)) ⊎ ((found ≡ facts_table format) × (4_294_967_295 ≤ length facts))
+IsInconsistent format r column labels facts found = ((found ≡ label_column_table column) × HasNoLabel labels (sales_of r column facts)) ⊎ ((found ≡ facts_table format) × (4_294_967_295 ≤ length facts))
 
 -- what the facts come to, none of the range being passed over, or that they can't be counted
 abbrev pub IsSummed : Format → Asked → LabelColumn → (ℕ → Option (List ℕ)) → List Fact → Result Summed ReportFault → Type 0
@@ -94,7 +94,7 @@ IsSummed format r column labels facts (Err fault) = ⊤
 -- why a fact isn't counted, as a fault of the report
 abbrev pub uncounted : Format → LabelColumn → FactFault → ReportFault
 uncounted format column uncountable.Memory = Warehouse faults.Memory
-uncounted format column uncountable.NoLabel = Inconsistent (table_of column)
+uncounted format column uncountable.NoLabel = Inconsistent (label_column_table column)
 uncounted format column uncountable.Damaged = Inconsistent (facts_table format)
 
 -- what a report of any tables says; each fact of the range is in it, under the label that its key leads to
@@ -136,23 +136,23 @@ label_in column t key = first_text key (labels_in column t)
 
 -- the stored facts of a format are these sales by one of their keys, in any order: each is of its types in the columns that are read
 abbrev pub AreAllSales : Format → FactColumn → Stored → List KeyedSale → Type 0
-AreAllSales format which stored sales = IsPermutation (map columns_of sales) (map (shown_of which) (stored.rows (facts_table format)))
+AreAllSales format which stored sales = IsPermutation (map read_keyed_sale sales) (map (shown_of which) (stored.rows (facts_table format)))
 
 -- a row that a sale of the range names is missing in the table that is found; or that is the facts', and it has more than can be counted, or measures that no sale has
 abbrev pub AreInconsistent : Format → Asked → LabelColumn → (ℕ → Option (List ℕ)) → List KeyedSale → Table → Type 0
-AreInconsistent format r column labels sales found = ((found ≡ table_of column) × HasNoLabel labels (sales_asked r sales)) ⊎ ((found ≡ facts_table format) × (AllByRecursion (λ s. IsMeasured (measures_of s)) sales → 4_294_967_295 ≤ length sales))
+AreInconsistent format r column labels sales found = ((found ≡ label_column_table column) × HasNoLabel labels (sales_asked r sales)) ⊎ ((found ≡ facts_table format) × (AllByRecursion (λ s. IsMeasured (measures_of s)) sales → 4_294_967_295 ≤ length sales))
 
 -- what the sales of the range come to, none being passed over, or that they can't be counted
 abbrev pub IsSummedOf : Format → Asked → LabelColumn → (ℕ → Option (List ℕ)) → Stored → Result Summed ReportFault → Type 0
-IsSummedOf format r column labels stored (Ok sums) = (sales : List KeyedSale) × AreAllSales format (key_by column) stored sales × (sums ≡ summed (filter_map (with_label labels) (sales_asked r sales))) × AreLabelled labels (sales_asked r sales)
-IsSummedOf format r column labels stored (Err (Inconsistent found)) = (sales : List KeyedSale) × AreAllSales format (key_by column) stored sales × AreInconsistent format r column labels sales found
+IsSummedOf format r column labels stored (Ok sums) = (sales : List KeyedSale) × AreAllSales format (label_column_fact_key column) stored sales × (sums ≡ summed (filter_map (with_label labels) (sales_asked r sales))) × AreLabelled labels (sales_asked r sales)
+IsSummedOf format r column labels stored (Err (Inconsistent found)) = (sales : List KeyedSale) × AreAllSales format (label_column_fact_key column) stored sales × AreInconsistent format r column labels sales found
 IsSummedOf format r column labels stored (Err fault) = ⊤
 
 -- what a report of stored rows says: no row of those that it reads is damaged, and each fact of the range is in it, under the label that its key leads to
 abbrev pub ReportsStored : Format → Asked → LabelColumn → Stored → Result (Vec ℕ Global) ReportFault → Type 0
-ReportsStored format r column stored (Ok text) = (t : LabelRows) × AreAllFor column stored t × ((sales : List KeyedSale) × AreAllSales format (key_by column) stored sales
+ReportsStored format r column stored (Ok text) = (t : LabelRows) × AreAllFor column stored t × ((sales : List KeyedSale) × AreAllSales format (label_column_fact_key column) stored sales
     × (text.items ≡ text_asked r (filter_map (with_label (label_in column t)) (sales_asked r sales))) × AreLabelled (label_in column t) (sales_asked r sales))
-ReportsStored format r column stored (Err (Inconsistent found)) = (t : LabelRows) × AreAllFor column stored t × ((sales : List KeyedSale) × AreAllSales format (key_by column) stored sales × AreInconsistent format r column (label_in column t) sales found)
+ReportsStored format r column stored (Err (Inconsistent found)) = (t : LabelRows) × AreAllFor column stored t × ((sales : List KeyedSale) × AreAllSales format (label_column_fact_key column) stored sales × AreInconsistent format r column (label_in column t) sales found)
 ReportsStored format r column stored (Err fault) = ⊤
 
 -- the column that is asked for under a policy

@@ -17,8 +17,8 @@ no_reading Month mode = NoDateReading mode
 no_reading Holiday mode = NoDateReading mode
 
 -- the request that the words make, or the first fault: no attribute, no reading, no range
-unfoldable pub asked : Policy → List ℕ → Mode → List ℕ → List ℕ → Result Asked RequestFault
-asked policy words mode from to = do
+unfoldable pub read_request : Policy → List ℕ → Mode → List ℕ → List ℕ → Result Asked RequestFault
+read_request policy words mode from to = do
   subject ← ok_or (subject_in policy words) NoAttribute
   unless_fault (is_some (reading_of subject mode)) (no_reading subject mode) (do
     first ← ok_or (read_day from) BadRange

@@ -2,8 +2,8 @@
 use Rattle.std.specs.Prelude.{ℕ, ◌-◌, pos, cond, ◌==◌, if◌then◌else◌, List, [], ◌∷◌, Option, Some, None, option_map, option_and_then, codes}
 use Rattle.std.specs.Str.{bytes_eq}
 use Rattle.wh_policy.specs.Names.{slot_from}
-use Rattle.wh_policy.specs.Policy.{attributes_of}
-use Rattle.wh_policy.specs.Types.{type_of_number}
+use Rattle.wh_policy.specs.Policy.{policy_attributes}
+use Rattle.wh_policy.specs.Types.{attribute_type_of_number}
 use Rattle.wh_policy.specs.declared.attribute.AttributeType.{AttributeType}
 use Rattle.wh_policy.specs.declared.attribute.AttributeType.TheVariants.{RetainOriginal, Overwrite, NewRow, NewAttribute, MiniDimension, MiniDimensionOutrigger, NewRowAndOverwrite, DualKeys}
 use Rattle.wh_policy.specs.declared.attribute.Dim.{Dim}
@@ -74,11 +74,11 @@ after (p ∷ prefix) (t ∷ text) = cond (p == t) (after prefix text) None
 
 -- the attribute of a slot from 1 and of the number of a type
 abbrev pub attribute_at : Dim → ℕ × ℕ → Option Subject
-attribute_at dim found = option_map (λ kind. Attribute (record { dim = dim; place = found.0 - 1; kind = kind })) (type_of_number (pos found.1))
+attribute_at dim found = option_map (λ kind. Attribute (record { dim = dim; place = found.0 - 1; kind = kind })) (attribute_type_of_number (pos found.1))
 
 -- the attribute that has the name in a dimension
 abbrev pub attribute_in : Policy → Dim → List ℕ → Option Subject
-attribute_in policy dim name = option_and_then (attribute_at dim) (slot_from 1 name (attributes_of policy dim))
+attribute_in policy dim name = option_and_then (attribute_at dim) (slot_from 1 name (policy_attributes policy dim))
 
 -- what a name finds, where there is one, and else another answer
 abbrev pub named_or : Option (List ℕ) → (List ℕ → Option Subject) → Option Subject → Option Subject

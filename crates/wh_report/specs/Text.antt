@@ -36,8 +36,8 @@ abbrev pub lines_text : List (List ℕ × Figures) → List ℕ
 lines_text = flat_map (λ l. line_text l.0 l.1)
 
 -- and one for the total
-unfoldable pub summed_text : Summed → List ℕ
-summed_text s = lines_text s.lines ++ line_text (codes "total") s.total
+unfoldable pub summary_text : Summed → List ℕ
+summary_text s = lines_text s.lines ++ line_text (codes "total") s.total
 
 -- the request in the words that it was made with, and the titles of the columns
 unfoldable pub heading : List ℕ → List ℕ → List ℕ → List ℕ → List ℕ
@@ -47,4 +47,4 @@ heading attribute mode from to =
 
 -- what the sales of the range come to
 unfoldable pub report_text : List ℕ → List ℕ → List ℕ → List ℕ → List Sold → List ℕ
-report_text attribute mode from to sales = heading attribute mode from to ++ summed_text (summed sales)
+report_text attribute mode from to sales = heading attribute mode from to ++ summary_text (summed sales)

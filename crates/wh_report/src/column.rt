@@ -1,7 +1,7 @@
 //! Where the labels of sales stand in the tables of the warehouse.
 
 ghost use Rattle.std.specs.Prelude.{◌≡◌};
-ghost use Rattle.wh_report.specs.Joined.{attribute_column, column_of, key_by, table_of, table_of_dim};
+ghost use Rattle.wh_report.specs.Joined.{attribute_column, column_of, label_column_fact_key, label_column_table, table_of_dim};
 
 use crate::subject::{Reading, SlotAttribute, Subject};
 use wh_policy::{AttributeType, Dim};
@@ -58,12 +58,12 @@ fn attribute_column(attribute: SlotAttribute, reading: Reading) -> LabelColumn
 impl LabelColumn {
     /// The table that has it. Where a fact's key leads to no label, a row of this table is missing.
     pub fn table(self) -> Table
-        ensures { result ≡ table_of self }
+        ensures { result ≡ label_column_table self }
     {
         match self {
             LabelColumn::Main(dim, _)
             | LabelColumn::Second(dim, _)
-            | LabelColumn::CurrentMain(dim, _) => dimension_table(dim),
+            | LabelColumn::CurrentMain(dim, _) => table_of_dim(dim),
             LabelColumn::FactProfile(_) => Table::Profile,
             LabelColumn::CurrentProfile(_) => Table::Customer,
             LabelColumn::CalendarMonth | LabelColumn::CalendarHoliday => Table::Calendar,
@@ -72,7 +72,7 @@ impl LabelColumn {
 
     /// The key by which a fact names the row of its label.
     pub fn fact_key(self) -> FactColumn
-        ensures { result ≡ key_by self }
+        ensures { result ≡ label_column_fact_key self }
     {
         match self {
             LabelColumn::Main(dim, _) | LabelColumn::Second(dim, _) => FactColumn::Surrogate(dim),
@@ -85,7 +85,7 @@ impl LabelColumn {
 }
 
 /// The table of a dimension.
-fn dimension_table(dim: Dim) -> Table
+fn table_of_dim(dim: Dim) -> Table
     ensures { result ≡ table_of_dim dim }
 {
     match dim {

@@ -10,7 +10,7 @@ ghost use Rattle.wh_store.specs.Scan.{HandsOut, HandsOutOf, AreValid};
 ghost use Rattle.wh_day.specs.declared.calendar.DateRow.{DateRow};
 ghost use Rattle.wh_history.specs.declared.rows.DimRow.{DimRow as Member};
 ghost use Rattle.wh_rows.specs.declared.rows.ProfileRow.{ProfileRow};
-ghost use Rattle.wh_report.specs.Labels.{LabelRows, text_of, first_text, row_labels, profile_labels, date_labels, labels_in, AreLabels};
+ghost use Rattle.wh_report.specs.Labels.{LabelRows, labels_get, first_text, row_labels, profile_labels, date_labels, labels_in, AreLabels};
 ghost use Rattle.wh_report.specs.Reported.{left_of_dim, rows_of_dim, label_rows, layout_of_dim, AreAllOfDim, AreAllProfiles, AreAllDays, AreAllFor};
 ghost use Rattle.wh_report.specs.Joined.{table_of_dim};
 
@@ -54,8 +54,8 @@ fn labels_of_rows<S: Alter>(
 ) -> Result<Labels, Fault>
     ensures reads { ReadsThrough engine.old.session engine.new.session (state_of S.Store engine.old.tables) (state_of S.Store engine.new.tables) result }
     ensures writes { engine.new.writes ≡ engine.old.writes }
-    ensures labels { SaysAtRest (state_of S.Store engine.old.tables) (state_of S.Store engine.new.tables) (λ t. IfOk result (λ labels. AreLabels labels (row_labels column (text_of profiles.now) (rows_of_dim dim t)))) }
-    ensures stored { SaysAsStored (state_of S.Store engine.old.tables) (state_of S.Store engine.new.tables) (λ stored. IfOk result (λ labels. (rows : List Member) × AreAllOfDim dim stored rows × AreLabels labels (row_labels column (text_of profiles.now) rows))) }
+    ensures labels { SaysAtRest (state_of S.Store engine.old.tables) (state_of S.Store engine.new.tables) (λ t. IfOk result (λ labels. AreLabels labels (row_labels column (labels_get profiles.now) (rows_of_dim dim t)))) }
+    ensures stored { SaysAsStored (state_of S.Store engine.old.tables) (state_of S.Store engine.new.tables) (λ stored. IfOk result (λ labels. (rows : List Member) × AreAllOfDim dim stored rows × AreLabels labels (row_labels column (labels_get profiles.now) rows))) }
 {
     let mut cursor = Cursor::new(alloc);
     let mut labels = Labels::new(alloc);

@@ -28,7 +28,7 @@ pub(crate) struct CsvBuffer {
 }
 
 /// Makes the line of these fields, after those that were made. Over a buffer in memory `csv` fails only where memory runs out.
-fn make_line(made: &mut Writer<Vec<u8>>, fields: &StringRecord) -> Result<(), AllocError>
+fn gather_line(made: &mut Writer<Vec<u8>>, fields: &StringRecord) -> Result<(), AllocError>
     ensures { OnOk result ((text : List ℕ) → AreMade made.old text → AreMade made.new (text ++ row_text default_writer (fields_of fields.now))) }
 {
     match made.write_byte_record(fields.as_byte_record()) {
@@ -75,7 +75,7 @@ impl CsvBuffer {
         ensures added { OnOk result ((text : List ℕ) → Gathers self.old text → Gathers self.new (text ++ row_text default_writer (fields_of self.old.fields))) }
         ensures kept { OnErr result (self.new.lines.items ≡ self.old.lines.items) }
     {
-        make_line(&mut self.made, &self.fields)?;
+        gather_line(&mut self.made, &self.fields)?;
         flush_lines(&mut self.made)?;
         catch_up(&mut self.lines, self.made.get_ref())
     }

@@ -6,7 +6,7 @@ ghost use Rattle.wh_engine.specs.Scanned.{ReadsThrough};
 ghost use Rattle.wh_rows.specs.Facts.{facts_in, facts_table};
 ghost use Rattle.wh_rows.specs.declared.keyed_sale.KeyedSale.{KeyedSale};
 ghost use Rattle.wh_store.specs.Reads.{SaysAtRest, SaysAsStored, state_of};
-ghost use Rattle.wh_report.specs.Labels.{text_of};
+ghost use Rattle.wh_report.specs.Labels.{labels_get};
 ghost use Rattle.wh_report.specs.Output.{IsOfTables, of_warehouse};
 ghost use Rattle.wh_report.specs.Reported.{IsSummed, IsSummedOf, uncounted};
 ghost use Rattle.wh_report.specs.Tallied.{IsTally, IsCounted};
@@ -73,7 +73,7 @@ impl FactAggregate for FactSums<'_> {
 impl FactSums<'_> {
     /// What the sales come to by the labels that their keys lead to.
     fn by_label(&self, alloc: Global, labels: &Labels) -> Result<Summary, FactFault>
-        ensures { (sales : List KeyedSale) → IsTally self.now.request.now sales self.now.sums self.now.fault → IsCounted self.now.request.now (text_of labels.now) sales result }
+        ensures { (sales : List KeyedSale) → IsTally self.now.request.now sales self.now.sums self.now.fault → IsCounted self.now.request.now (labels_get labels.now) sales result }
     {
         match self.fault {
             Some(fault) => Err(FactFault::from(fault)),
@@ -92,8 +92,8 @@ pub(crate) fn summary_of<S: Alter>(
 ) -> Result<Summary, ReportFault>
     ensures reads { ReadsThrough engine.old.session engine.new.session (state_of S.Store engine.old.tables) (state_of S.Store engine.new.tables) (of_warehouse result) }
     ensures writes { engine.new.writes ≡ engine.old.writes }
-    ensures sums { SaysAtRest (state_of S.Store engine.old.tables) (state_of S.Store engine.new.tables) (λ t. IsSummed engine.old.session.format request.now column (text_of labels.now) (values (facts_in engine.old.session.format t)) result) }
-    ensures stored { SaysAsStored (state_of S.Store engine.old.tables) (state_of S.Store engine.new.tables) (λ stored. IsSummedOf engine.old.session.format request.now column (text_of labels.now) stored result) }
+    ensures sums { SaysAtRest (state_of S.Store engine.old.tables) (state_of S.Store engine.new.tables) (λ t. IsSummed engine.old.session.format request.now column (labels_get labels.now) (values (facts_in engine.old.session.format t)) result) }
+    ensures stored { SaysAsStored (state_of S.Store engine.old.tables) (state_of S.Store engine.new.tables) (λ stored. IsSummedOf engine.old.session.format request.now column (labels_get labels.now) stored result) }
     ensures only { IfErr result IsOfTables }
 {
     let mut sums = FactSums {

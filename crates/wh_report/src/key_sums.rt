@@ -4,7 +4,7 @@ ghost use Rattle.std.specs.Prelude.{◌≡◌, ◌≤◌, ◌++◌, ◌∷◌, [
 ghost use Rattle.wh_rows.specs.declared.keyed_sale.KeyedSale.{KeyedSale};
 ghost use Rattle.wh_report.specs.Counting.{measures_of};
 ghost use Rattle.wh_report.specs.KeySums.{AreKeySums, IsLabelled};
-ghost use Rattle.wh_report.specs.Labels.{text_of};
+ghost use Rattle.wh_report.specs.Labels.{labels_get};
 ghost use Rattle.wh_report.specs.Sums.{IsMeasured};
 ghost use Rattle.wh_report.specs.declared.summary.AddError.TheVariants.{Damaged};
 
@@ -61,7 +61,7 @@ impl KeySums {
 
     /// What the sales come to by the labels that their keys lead to.
     pub(crate) fn by_label(&self, alloc: Global, labels: &Labels) -> Result<Summary, FactFault>
-        ensures { (sales : List KeyedSale) → AreKeySums self.now sales → IsLabelled (text_of labels.now) sales result }
+        ensures { (sales : List KeyedSale) → AreKeySums self.now sales → IsLabelled (labels_get labels.now) sales result }
     {
         let mut summary = Summary::new(alloc);
         for (key, figures) in self.figures.iter() {

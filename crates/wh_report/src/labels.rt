@@ -5,7 +5,7 @@ ghost use Rattle.wh_day.specs.declared.calendar.DateRow.{DateRow};
 ghost use Rattle.wh_history.specs.declared.rows.DimRow.{DimRow};
 ghost use Rattle.wh_rows.specs.declared.rows.ProfileRow.{ProfileRow};
 ghost use Rattle.wh_report.specs.Label.{month_text};
-ghost use Rattle.wh_report.specs.Labels.{text_of, entry, with_text, row_key, row_text, value_text, date_text, row_labels, profile_labels, date_labels, AreLabels};
+ghost use Rattle.wh_report.specs.Labels.{labels_get, entry, with_text, row_key, row_text, value_text, date_text, row_labels, profile_labels, date_labels, AreLabels};
 
 use crate::column::LabelColumn;
 use std::alloc::{AllocError, Global};
@@ -43,13 +43,13 @@ impl Labels {
 
     /// The label under a key.
     pub fn get(&self, key: u64) -> Option<&Value>
-        ensures { option_map (λ text. text.now) result ≡ text_of self.now key }
+        ensures { option_map (λ text. text.now) result ≡ labels_get self.now key }
     {
         self.texts.get(&key)
     }
 
     fn put(&mut self, key: u64, text: &str) -> Result<(), AllocError>
-        ensures { OnOk result ((k : ℕ) → text_of self.new k ≡ with_text key text.now (text_of self.old) k) }
+        ensures { OnOk result ((k : ℕ) → labels_get self.new k ≡ with_text key text.now (labels_get self.old) k) }
     {
         if self.texts.contains_key(&key) {
             return Ok(());
@@ -76,7 +76,7 @@ impl Labels {
         profiles: &Labels,
         row: &DimRow,
     ) -> Result<(), AllocError>
-        ensures { (rows : List DimRow) → AreLabels self.old (row_labels column (text_of profiles.now) rows) → OnOk result (AreLabels self.new (row_labels column (text_of profiles.now) (rows ++ row.now ∷ []))) }
+        ensures { (rows : List DimRow) → AreLabels self.old (row_labels column (labels_get profiles.now) rows) → OnOk result (AreLabels self.new (row_labels column (labels_get profiles.now) (rows ++ row.now ∷ []))) }
     {
         self.put_entry(column.row_key(row), column.row_text(profiles, row))
     }
@@ -113,7 +113,7 @@ impl LabelColumn {
 
     /// The label that a row of the dimension has, by its own columns or by the profile that it names.
     fn row_text<'a>(self, profiles: &'a Labels, row: &'a DimRow) -> Option<&'a Value>
-        ensures { option_map (λ text. text.now) result ≡ row_text self (text_of profiles.now) row.now }
+        ensures { option_map (λ text. text.now) result ≡ row_text self (labels_get profiles.now) row.now }
     {
         match self {
             LabelColumn::Main(_, place) | LabelColumn::CurrentMain(_, place) => {
@@ -144,7 +144,7 @@ impl LabelColumn {
         ensures { IfOk result (λ text. text ≡ date_text self row.now) }
     {
         match self {
-            LabelColumn::CalendarMonth => Ok(Some(month_value(alloc, row.date_key)?)),
+            LabelColumn::CalendarMonth => Ok(Some(month_text(alloc, row.date_key)?)),
             LabelColumn::CalendarHoliday => Ok(Some(row.holiday.copy()?)),
             _ => Ok(None),
         }
@@ -152,7 +152,7 @@ impl LabelColumn {
 }
 
 /// The month of a day, as `2024-02`.
-fn month_value(alloc: Global, day: Day) -> Result<Value, AllocError>
+fn month_text(alloc: Global, day: Day) -> Result<Value, AllocError>
     ensures { IfOk result (λ text. text ≡ month_text day) }
 {
     let text = format!(in alloc; "{day}")?;

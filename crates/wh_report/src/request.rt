@@ -2,7 +2,7 @@
 
 ghost use Rattle.std.specs.Prelude.{◌≡◌};
 ghost use Rattle.wh_day.specs.Reading.{Gives};
-ghost use Rattle.wh_report.specs.Request.{asked, is_asked_of, has_reading, no_reading};
+ghost use Rattle.wh_report.specs.Request.{read_request, is_asked_of, has_reading, no_reading};
 
 use crate::mode::Mode;
 use crate::subject::{Subject, reading_of, subject_in};
@@ -50,7 +50,7 @@ impl Model for Request {
 impl Request {
     /// The request for a report by the attribute of these words, in this mode, on the sales from one day to another, both
     /// included and written `YYYY-MM-DD`; or the first fault. `Memory`: a growth was refused.
-    #[tactic(auto, unfolding(crate::specs::Request::asked))]
+    #[tactic(auto, unfolding(crate::specs::Request::read_request))]
     pub fn read(
         alloc: Global,
         policy: &Policy,
@@ -59,7 +59,7 @@ impl Request {
         from: &[u8],
         to: &[u8],
     ) -> Result<Request, ParseError<RequestFault>>
-        ensures { Gives (λ request. request) result (asked policy.now attribute.now mode from.now to.now) }
+        ensures { Gives (λ request. request) result (read_request policy.now attribute.now mode from.now to.now) }
     {
         let Some(subject) = subject_in(policy, attribute) else {
             return Err(ParseError::Fault(RequestFault::NoAttribute));

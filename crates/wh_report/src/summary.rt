@@ -77,7 +77,7 @@ impl Summary {
         ensures sums { (sales more : List Sold) → self.old ≡ summed sales → AreSoldAs label.now figures more → OnOk result (self.new ≡ summed (sales ++ more)) }
         ensures damaged { (sales more : List Sold) → self.old ≡ summed sales → AreSoldAs label.now figures more → IfErr result (λ e. e ≡ Damaged → 4_294_967_295 ≤ length (sales ++ more)) }
     {
-        let Some(line) = figures_of(&self.lines, label).checked_add(figures) else {
+        let Some(line) = totals_under(&self.lines, label).checked_add(figures) else {
             return Err(AddError::Damaged);
         };
         let Some(total) = self.total.checked_add(figures) else {
@@ -90,7 +90,7 @@ impl Summary {
 }
 
 /// What is there to a label so far.
-fn figures_of(lines: &BTreeMap<String, Totals>, label: &str) -> Totals
+fn totals_under(lines: &BTreeMap<String, Totals>, label: &str) -> Totals
     ensures { result ≡ unwrap_or (lookup (is_at (by_bytes label.now)) (by_text lines.now.entries)) nothing }
 {
     lines.get(label).copied().unwrap_or(Totals::new())

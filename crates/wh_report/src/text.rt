@@ -3,7 +3,7 @@
 ghost use Rattle.std.specs.Prelude.{◌≡◌, List, IfOk, string_bytes, decimal};
 ghost use Rattle.std.specs.Fmt.{signed_decimal};
 ghost use Rattle.wh_report.specs.Summary.{Sold, summed};
-ghost use Rattle.wh_report.specs.Text.{aligned, hundredths, money, line_text, lines_text, summed_text, heading, report_text};
+ghost use Rattle.wh_report.specs.Text.{aligned, hundredths, money, line_text, lines_text, summary_text, heading, report_text};
 ghost use Rattle.wh_report.specs.Label.{text_asked};
 
 use crate::request::Request;
@@ -69,7 +69,7 @@ fn money_cell(alloc: Global, amount: i64) -> Result<String, AllocError>
 
 /// A line of a report.
 #[tactic(auto, unfolding(crate::specs::Text::line_text))]
-fn line(alloc: Global, label: &str, totals: Totals) -> Result<String, AllocError>
+fn line_text(alloc: Global, label: &str, totals: Totals) -> Result<String, AllocError>
     ensures { IfOk result (λ s. string_bytes s ≡ line_text label.now totals) }
 {
     let lines = lines_cell(alloc, totals.lines())?;
@@ -82,16 +82,16 @@ fn line(alloc: Global, label: &str, totals: Totals) -> Result<String, AllocError
 
 impl Summary {
     /// A line for each label, and one for the total.
-    #[tactic(auto, unfolding(crate::specs::Text::summed_text))]
+    #[tactic(auto, unfolding(crate::specs::Text::summary_text))]
     pub fn text(&self, alloc: Global) -> Result<String, AllocError>
-        ensures { IfOk result (λ s. string_bytes s ≡ summed_text self.now) }
+        ensures { IfOk result (λ s. string_bytes s ≡ summary_text self.now) }
     {
         let mut text = String::new(alloc);
         for (label, totals) in self.lines.iter() {
-            let line = line(alloc, label.as_str(), *totals)?;
+            let line = line_text(alloc, label.as_str(), *totals)?;
             text.push_str(line.as_str())?;
         }
-        let total = line(alloc, "total", self.total)?;
+        let total = line_text(alloc, "total", self.total)?;
         text.push_str(total.as_str())?;
         Ok(text)
     }

@@ -23,7 +23,7 @@ use Rattle.wh_rows.specs.declared.rows.ProfileRow.{ProfileRow}
 use Rattle.wh_rows.specs.Types.{is_number, is_discount, is_line, is_measure, is_key, is_kind, are_slots}
 use Rattle.wh_rows.specs.Rows.{encode_meta, encode_command, encode_member, encode_change, encode_dimension, encode_profile, encode_date, encode_fact, encode_fact2, encode_void, is_meta, is_command, is_member, is_change, is_natural, is_dimension, is_profile, is_date, has_good_columns, is_fact, is_fact2, is_void}
 use Rattle.wh_rows.specs.Columns.{integer_of, number_of, discount_of, line_of, measure_of, day_of, flag_of, dim_of, blob_of, text_of, tested_of, slots_of}
-use Rattle.wh_rows.specs.Stored.{meta_columns, command_columns, member_columns, change_columns, dimension_columns, profile_columns, date_columns, fact_columns, fact2_columns, void_columns, meta_of, command_of, member_of, change_of, dimension_of, profile_of, date_of, fact_of, fact2_of, void_of}
+use Rattle.wh_rows.specs.Stored.{meta_columns, command_columns, member_columns, change_columns, dimension_columns, profile_columns, date_columns, fact_columns, fact2_columns, void_columns, read_meta, read_command, read_member, read_change, read_dimension, read_profile, read_date, read_fact, read_fact2, read_void}
 use Rattle.wh_rows.proofs.Edits.{same_value}
 use Rattle.wh_rows.proofs.ColumnLemmas.{when_ok, bind_ok, bind_is, both, whole, integer_so, integer_is, number_so, discount_so, number_is, discount_is, line_so, line_is, measure_so, measure_is, day_so, day_is, flag_so, flag_is, dim_so, dim_is, blob_so, blob_is, text_so, text_is, tested_so, tested_is, key_text, kind_text, natural_text, slots_so, slots_is}
 
@@ -46,8 +46,8 @@ once_read of encode is_valid complete v w valid_v valid_w same = same_value (sym
 
 -- ---- meta
 
-pub meta_sound : (row : Row) (r : MetaRow) → meta_of row ≡ Ok r → (is_meta r ≡ true) × (row ≡ encode_meta r)
-unfolding meta_of
+pub meta_sound : (row : Row) (r : MetaRow) → read_meta row ≡ Ok r → (is_meta r ≡ true) × (row ≡ encode_meta r)
+unfolding read_meta
 meta_sound row r h =
     let all = when_ok (length row == 2) (meta_columns row) r h in
     let c0 = bind_ok (text_of (column row 0)) _ r all.1 in
@@ -58,16 +58,16 @@ meta_sound row r h =
     let columns : row ≡ encode_meta found = whole Null row 2 (eqb-true (length row) 2 all.0) ∙ ap₂ ◌∷◌ e0.0 (ap₂ ◌∷◌ e1 (refl)) in
     subst (λ r. (is_meta r ≡ true) × (row ≡ encode_meta r)) (same_value c1.2) (e0.1, columns)
 
-pub meta_complete : (r : MetaRow) → is_meta r ≡ true → meta_of (encode_meta r) ≡ Ok r
-unfolding meta_of
+pub meta_complete : (r : MetaRow) → is_meta r ≡ true → read_meta (encode_meta r) ≡ Ok r
+unfolding read_meta
 meta_complete r valid =
     bind_is _ r.name _ r (text_is r.name valid)
     (bind_is _ r.value _ r (integer_is r.value) refl)
 
 -- ---- command
 
-pub command_sound : (row : Row) (r : CommandRow) → command_of row ≡ Ok r → (is_command r ≡ true) × (row ≡ encode_command r)
-unfolding command_of
+pub command_sound : (row : Row) (r : CommandRow) → read_command row ≡ Ok r → (is_command r ≡ true) × (row ≡ encode_command r)
+unfolding read_command
 command_sound row r h =
     let all = when_ok (length row == 6) (command_columns row) r h in
     let c0 = bind_ok (number_of (column row 0)) _ r all.1 in
@@ -86,8 +86,8 @@ command_sound row r h =
     let columns : row ≡ encode_command found = whole Null row 6 (eqb-true (length row) 6 all.0) ∙ ap₂ ◌∷◌ e0.0 (ap₂ ◌∷◌ e1.0 (ap₂ ◌∷◌ e2.0 (ap₂ ◌∷◌ e3 (ap₂ ◌∷◌ e4.0 (ap₂ ◌∷◌ e5.0 (refl)))))) in
     subst (λ r. (is_command r ≡ true) × (row ≡ encode_command r)) (same_value c5.2) (both (both (both (both e0.1 e1.1) (e2.1)) (e4.1)) (e5.1), columns)
 
-pub command_complete : (r : CommandRow) → is_command r ≡ true → command_of (encode_command r) ≡ Ok r
-unfolding command_of
+pub command_complete : (r : CommandRow) → is_command r ≡ true → read_command (encode_command r) ≡ Ok r
+unfolding read_command
 command_complete r valid =
     let a4 = and_parts (is_number r.number && is_key 40 r.id && is_kind r.kind && is_number r.records) (is_number r.placeholders) valid in
     let a3 = and_parts (is_number r.number && is_key 40 r.id && is_kind r.kind) (is_number r.records) a4.0 in
@@ -102,8 +102,8 @@ command_complete r valid =
 
 -- ---- member
 
-pub member_sound : (row : Row) (r : MemberRow) → member_of row ≡ Ok r → (is_member r ≡ true) × (row ≡ encode_member r)
-unfolding member_of
+pub member_sound : (row : Row) (r : MemberRow) → read_member row ≡ Ok r → (is_member r ≡ true) × (row ≡ encode_member r)
+unfolding read_member
 member_sound row r h =
     let all = when_ok (length row == 4) (member_columns row) r h in
     let c0 = bind_ok (dim_of (column row 0)) _ r all.1 in
@@ -118,8 +118,8 @@ member_sound row r h =
     let columns : row ≡ encode_member found = whole Null row 4 (eqb-true (length row) 4 all.0) ∙ ap₂ ◌∷◌ e0 (ap₂ ◌∷◌ e1.0 (ap₂ ◌∷◌ e2.0 (ap₂ ◌∷◌ e3.0 (refl)))) in
     subst (λ r. (is_member r ≡ true) × (row ≡ encode_member r)) (same_value c3.2) (both (both e1.1 e2.1) (e3.1), columns)
 
-pub member_complete : (r : MemberRow) → is_member r ≡ true → member_of (encode_member r) ≡ Ok r
-unfolding member_of
+pub member_complete : (r : MemberRow) → is_member r ≡ true → read_member (encode_member r) ≡ Ok r
+unfolding read_member
 member_complete r valid =
     let a2 = and_parts (is_number r.durable && is_key 32 r.natural) (is_number r.opening) valid in
     let a1 = and_parts (is_number r.durable) (is_key 32 r.natural) a2.0 in
@@ -130,8 +130,8 @@ member_complete r valid =
 
 -- ---- change
 
-pub change_sound : (row : Row) (r : ChangeRow) → change_of row ≡ Ok r → (is_change r ≡ true) × (row ≡ encode_change r)
-unfolding change_of
+pub change_sound : (row : Row) (r : ChangeRow) → read_change row ≡ Ok r → (is_change r ≡ true) × (row ≡ encode_change r)
+unfolding read_change
 change_sound row r h =
     let all = when_ok (length row == 12) (change_columns row) r h in
     let c0 = bind_ok (number_of (column row 0)) _ r all.1 in
@@ -152,8 +152,8 @@ change_sound row r h =
     let columns : row ≡ encode_change found = whole Null row 12 (eqb-true (length row) 12 all.0) ∙ ap₂ ◌∷◌ e0.0 (ap₂ ◌∷◌ e1.0 (ap₂ ◌∷◌ e2 (ap₂ ◌∷◌ e3.0 (ap₂ ◌∷◌ e4.0 (ap₂ ◌∷◌ e5.0 (ap₂ ◌∷◌ e6.1 (ap₂ ◌∷◌ e6.2 (ap₂ ◌∷◌ e6.3 (ap₂ ◌∷◌ e6.4 (ap₂ ◌∷◌ e6.5 (ap₂ ◌∷◌ e6.6 (refl)))))))))))) in
     subst (λ r. (is_change r ≡ true) × (row ≡ encode_change r)) (same_value c6.2) (both (both (both (both (both e0.1 e1.1) (e3.1)) (e4.1)) (e5.1)) (e6.0), columns)
 
-pub change_complete : (r : ChangeRow) → is_change r ≡ true → change_of (encode_change r) ≡ Ok r
-unfolding change_of
+pub change_complete : (r : ChangeRow) → is_change r ≡ true → read_change (encode_change r) ≡ Ok r
+unfolding read_change
 change_complete r valid =
     let a5 = and_parts (is_number r.command && is_number r.place && is_number r.durable && is_day r.day && is_number r.anchor) (are_slots r.values) valid in
     let a4 = and_parts (is_number r.command && is_number r.place && is_number r.durable && is_day r.day) (is_number r.anchor) a5.0 in
@@ -170,8 +170,8 @@ change_complete r valid =
 
 -- ---- dimension
 
-pub dimension_sound : (dim : Dim) (row : Row) (r : DimRow) → dimension_of dim row ≡ Ok r → (is_dimension dim r ≡ true) × (row ≡ encode_dimension r)
-unfolding dimension_of
+pub dimension_sound : (dim : Dim) (row : Row) (r : DimRow) → read_dimension dim row ≡ Ok r → (is_dimension dim r ≡ true) × (row ≡ encode_dimension r)
+unfolding read_dimension
 dimension_sound dim row r h =
     let all = when_ok (length row == 19) (dimension_columns dim row) r h in
     let c0 = bind_ok (number_of (column row 0)) _ r all.1 in
@@ -196,8 +196,8 @@ dimension_sound dim row r h =
     let columns : row ≡ encode_dimension found = whole Null row 19 (eqb-true (length row) 19 all.0) ∙ ap₂ ◌∷◌ e0.0 (ap₂ ◌∷◌ e1.0 (ap₂ ◌∷◌ e2.0 (ap₂ ◌∷◌ e3.0 (ap₂ ◌∷◌ e4.0 (ap₂ ◌∷◌ e5 (ap₂ ◌∷◌ e6.1 (ap₂ ◌∷◌ e6.2 (ap₂ ◌∷◌ e6.3 (ap₂ ◌∷◌ e6.4 (ap₂ ◌∷◌ e6.5 (ap₂ ◌∷◌ e6.6 (ap₂ ◌∷◌ e7.1 (ap₂ ◌∷◌ e7.2 (ap₂ ◌∷◌ e7.3 (ap₂ ◌∷◌ e7.4 (ap₂ ◌∷◌ e7.5 (ap₂ ◌∷◌ e7.6 (ap₂ ◌∷◌ e8.0 (refl))))))))))))))))))) in
     subst (λ r. (is_dimension dim r ≡ true) × (row ≡ encode_dimension r)) (same_value c8.2) (both (both (both (both (both (both (both e0.1 e1.1) (e2.1)) (e3.1)) (e4.1)) (e6.0)) (e7.0)) (e8.1), columns)
 
-pub dimension_complete : (dim : Dim) (r : DimRow) → is_dimension dim r ≡ true → dimension_of dim (encode_dimension r) ≡ Ok r
-unfolding dimension_of
+pub dimension_complete : (dim : Dim) (r : DimRow) → is_dimension dim r ≡ true → read_dimension dim (encode_dimension r) ≡ Ok r
+unfolding read_dimension
 dimension_complete dim r valid =
     let a7 = and_parts (is_number r.surrogate && is_number r.durable && is_natural dim r.surrogate r.natural && is_day r.from_day && is_day r.to_day && are_slots r.a && are_slots r.b) (is_number r.profile_now) valid in
     let a6 = and_parts (is_number r.surrogate && is_number r.durable && is_natural dim r.surrogate r.natural && is_day r.from_day && is_day r.to_day && are_slots r.a) (are_slots r.b) a7.0 in
@@ -218,8 +218,8 @@ dimension_complete dim r valid =
 
 -- ---- profile
 
-pub profile_sound : (row : Row) (r : ProfileRow) → profile_of row ≡ Ok r → (is_profile r ≡ true) × (row ≡ encode_profile r)
-unfolding profile_of
+pub profile_sound : (row : Row) (r : ProfileRow) → read_profile row ≡ Ok r → (is_profile r ≡ true) × (row ≡ encode_profile r)
+unfolding read_profile
 profile_sound row r h =
     let all = when_ok (length row == 7) (profile_columns row) r h in
     let c0 = bind_ok (number_of (column row 0)) _ r all.1 in
@@ -230,8 +230,8 @@ profile_sound row r h =
     let columns : row ≡ encode_profile found = whole Null row 7 (eqb-true (length row) 7 all.0) ∙ ap₂ ◌∷◌ e0.0 (ap₂ ◌∷◌ e1.1 (ap₂ ◌∷◌ e1.2 (ap₂ ◌∷◌ e1.3 (ap₂ ◌∷◌ e1.4 (ap₂ ◌∷◌ e1.5 (ap₂ ◌∷◌ e1.6 (refl))))))) in
     subst (λ r. (is_profile r ≡ true) × (row ≡ encode_profile r)) (same_value c1.2) (both e0.1 e1.0, columns)
 
-pub profile_complete : (r : ProfileRow) → is_profile r ≡ true → profile_of (encode_profile r) ≡ Ok r
-unfolding profile_of
+pub profile_complete : (r : ProfileRow) → is_profile r ≡ true → read_profile (encode_profile r) ≡ Ok r
+unfolding read_profile
 profile_complete r valid =
     let a1 = and_parts (is_number r.number) (are_slots r.values) valid in
     bind_is _ r.number _ r (number_is r.number a1.0)
@@ -239,8 +239,8 @@ profile_complete r valid =
 
 -- ---- date
 
-pub date_sound : (row : Row) (r : DateRow) → date_of row ≡ Ok r → (is_date r ≡ true) × (row ≡ encode_date r)
-unfolding date_of
+pub date_sound : (row : Row) (r : DateRow) → read_date row ≡ Ok r → (is_date r ≡ true) × (row ≡ encode_date r)
+unfolding read_date
 date_sound row r h =
     let all = when_ok (length row == 11) (date_columns row) r h in
     let c0 = bind_ok (day_of (column row 0)) _ r all.1 in
@@ -269,8 +269,8 @@ date_sound row r h =
     let columns : row ≡ encode_date found = whole Null row 11 (eqb-true (length row) 11 all.0) ∙ ap₂ ◌∷◌ e0.0 (ap₂ ◌∷◌ e1.0 (ap₂ ◌∷◌ e2 (ap₂ ◌∷◌ e3 (ap₂ ◌∷◌ e4 (ap₂ ◌∷◌ e5 (ap₂ ◌∷◌ e6 (ap₂ ◌∷◌ e7 (ap₂ ◌∷◌ e8.0 (ap₂ ◌∷◌ e9 (ap₂ ◌∷◌ e10.0 (refl))))))))))) in
     subst (λ r. (is_date r ≡ true) × (row ≡ encode_date r)) (same_value c10.2) (both (both (both e0.1 e1.1) (e8.1)) (e10.1), columns)
 
-pub date_complete : (r : DateRow) → is_date r ≡ true → date_of (encode_date r) ≡ Ok r
-unfolding date_of
+pub date_complete : (r : DateRow) → is_date r ≡ true → read_date (encode_date r) ≡ Ok r
+unfolding read_date
 date_complete r valid =
     let a3 = and_parts (is_day r.date_key && is_utf8 r.iso && is_utf8 r.weekday_name) (is_utf8 r.holiday) valid in
     let a2 = and_parts (is_day r.date_key && is_utf8 r.iso) (is_utf8 r.weekday_name) a3.0 in
@@ -322,8 +322,8 @@ fact_columns_sound row r h =
     let columns = ap₂ ◌∷◌ e0.0 (ap₂ ◌∷◌ e1.0 (ap₂ ◌∷◌ e2.0 (ap₂ ◌∷◌ e3.0 (ap₂ ◌∷◌ e4.0 (ap₂ ◌∷◌ e5.0 (ap₂ ◌∷◌ e6.0 (ap₂ ◌∷◌ e7.0 (ap₂ ◌∷◌ e8.0 (ap₂ ◌∷◌ e9.0 (ap₂ ◌∷◌ e10.0 (ap₂ ◌∷◌ e11.0 (ap₂ ◌∷◌ e12.0 (refl))))))))))))) in
     subst (λ r. (is_fact r ≡ true) × (column row 0 ∷ column row 1 ∷ column row 2 ∷ column row 3 ∷ column row 4 ∷ column row 5 ∷ column row 6 ∷ column row 7 ∷ column row 8 ∷ column row 9 ∷ column row 10 ∷ column row 11 ∷ column row 12 ∷ [] ≡ encode_fact r)) (same_value c12.2) (both (both (both (both (both (both (both (both (both (both (both (both (both e0.1 e1.1) (e2.1)) (e3.1)) (e4.1)) (e5.1)) (e6.1)) (e7.1)) (e8.1)) (e9.1)) (e10.1)) (e11.1)) (e12.1)) refl, columns)
 
-pub fact_sound : (row : Row) (r : Fact) → fact_of row ≡ Ok r → (is_fact r ≡ true) × (row ≡ encode_fact r)
-unfolding fact_of
+pub fact_sound : (row : Row) (r : Fact) → read_fact row ≡ Ok r → (is_fact r ≡ true) × (row ≡ encode_fact r)
+unfolding read_fact
 fact_sound row r h =
     let all = when_ok (length row == 13) (fact_columns row) r h in
     let found = fact_columns_sound row r all.1 in
@@ -359,16 +359,16 @@ fact_columns_complete r more valid =
     (bind_is _ r.amount _ made (measure_is 999999999 r.amount a11.1)
     (bind_is _ r.cost _ made (measure_is 999999999 r.cost a12.1) refl))))))))))))
 
-pub fact_complete : (r : Fact) → is_fact r ≡ true → fact_of (encode_fact r) ≡ Ok r
-unfolding fact_of
+pub fact_complete : (r : Fact) → is_fact r ≡ true → read_fact (encode_fact r) ≡ Ok r
+unfolding read_fact
 fact_complete r valid =
     let parts = and_parts (has_good_columns r) (r.discount == 0) valid in
     fact_columns_complete r [] parts.0 ∙ ap (λ d. Ok (record r { discount = d })) (sym (eqb-true r.discount 0 parts.1))
 
 -- ---- fact2
 
-pub fact2_sound : (row : Row) (r : Fact) → fact2_of row ≡ Ok r → (is_fact2 r ≡ true) × (row ≡ encode_fact2 r)
-unfolding fact2_of
+pub fact2_sound : (row : Row) (r : Fact) → read_fact2 row ≡ Ok r → (is_fact2 r ≡ true) × (row ≡ encode_fact2 r)
+unfolding read_fact2
 fact2_sound row r h =
     let all = when_ok (length row == 14) (fact2_columns row) r h in
     let c0 = bind_ok (fact_columns row) _ r all.1 in
@@ -379,8 +379,8 @@ fact2_sound row r h =
     let columns : row ≡ encode_fact2 found = whole Null row 14 (eqb-true (length row) 14 all.0) ∙ ap₂ (λ (l : Row) d. l ++ d ∷ []) e0.1 e1.0 in
     subst (λ r. (is_fact2 r ≡ true) × (row ≡ encode_fact2 r)) (same_value c1.2) (both (and_parts (has_good_columns c0.0) (c0.0.discount == 0) e0.0).0 e1.1, columns)
 
-pub fact2_complete : (r : Fact) → is_fact2 r ≡ true → fact2_of (encode_fact2 r) ≡ Ok r
-unfolding fact2_of
+pub fact2_complete : (r : Fact) → is_fact2 r ≡ true → read_fact2 (encode_fact2 r) ≡ Ok r
+unfolding read_fact2
 fact2_complete r valid =
     let parts = and_parts (has_good_columns r) (is_discount r.discount) valid in
     bind_is _ (record r { discount = 0 }) _ r (fact_columns_complete r (Int (pos r.discount) ∷ []) parts.0)
@@ -388,8 +388,8 @@ fact2_complete r valid =
 
 -- ---- void
 
-pub void_sound : (row : Row) (r : VoidRow) → void_of row ≡ Ok r → (is_void r ≡ true) × (row ≡ encode_void r)
-unfolding void_of
+pub void_sound : (row : Row) (r : VoidRow) → read_void row ≡ Ok r → (is_void r ≡ true) × (row ≡ encode_void r)
+unfolding read_void
 void_sound row r h =
     let all = when_ok (length row == 3) (void_columns row) r h in
     let c0 = bind_ok (tested_of (is_key 20) (column row 0)) _ r all.1 in
@@ -402,8 +402,8 @@ void_sound row r h =
     let columns : row ≡ encode_void found = whole Null row 3 (eqb-true (length row) 3 all.0) ∙ ap₂ ◌∷◌ e0.0 (ap₂ ◌∷◌ e1.0 (ap₂ ◌∷◌ e2.0 refl)) in
     subst (λ r. (is_void r ≡ true) × (row ≡ encode_void r)) (same_value c2.2) (both (both e0.1 e1.1) e2.1, columns)
 
-pub void_complete : (r : VoidRow) → is_void r ≡ true → void_of (encode_void r) ≡ Ok r
-unfolding void_of
+pub void_complete : (r : VoidRow) → is_void r ≡ true → read_void (encode_void r) ≡ Ok r
+unfolding read_void
 void_complete r valid =
     let a2 = and_parts (is_key 20 r.ticket && is_line r.line) (is_number r.command) valid in
     let a1 = and_parts (is_key 20 r.ticket) (is_line r.line) a2.0 in

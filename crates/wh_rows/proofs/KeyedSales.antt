@@ -44,7 +44,7 @@ use Rattle.wh_rows.specs.Holds.{values_of}
 use Rattle.wh_rows.specs.Tables.{Tables, Stores}
 use Rattle.wh_rows.specs.Statements.{reading}
 use Rattle.wh_rows.specs.Raw.{Stored, IsStored, HasDamage, rows_in, rows_shown, stored_of}
-use Rattle.wh_rows.specs.KeyedSales.{keyed, columns_of, shown_of, key_in, keyed_columns, keyed_of, keyed_sales, ShowsSales, keyed_sales2}
+use Rattle.wh_rows.specs.KeyedSales.{keyed, read_keyed_sale, shown_of, key_in, keyed_columns, keyed_of, keyed_sales, ShowsSales, keyed_sales2}
 use Rattle.wh_rows.proofs.Answers.{is_read, map-map}
 use Rattle.wh_rows.proofs.ColumnLemmas.{bind_ok, bind_is, when_ok, whole, day_so, day_is, measure_so, measure_is}
 use Rattle.wh_rows.proofs.Edits.{filter_all, same_value}
@@ -63,7 +63,7 @@ key_so (Real x) n h = absurd (cc)
 key_so (Text t) n h = absurd (cc)
 key_so (Blob b) n h = absurd (cc)
 
-keyed_sound : (row : Row) (s : KeyedSale) → keyed_of row ≡ Ok s → row ≡ columns_of s
+keyed_sound : (row : Row) (s : KeyedSale) → keyed_of row ≡ Ok s → row ≡ read_keyed_sale s
 unfolding keyed_of
 keyed_sound row s h =
     let all = when_ok (length row == 5) (keyed_columns row) s h in
@@ -73,12 +73,12 @@ keyed_sound row s h =
     let amount = bind_ok (measure_of 999999999 (column row 3)) _ s quantity.2 in
     let cost = bind_ok (measure_of 999999999 (column row 4)) _ s amount.2 in
     let found : KeyedSale = record { day = day.0; key = key.0; quantity = quantity.0; amount = amount.0; cost = cost.0 } in
-    let columns : row ≡ columns_of found =
+    let columns : row ≡ read_keyed_sale found =
     whole Null row 5 (eqb-true (length row) 5 all.0)
     ∙ ap₂ ◌∷◌ (day_so _ _ day.1).0 (ap₂ ◌∷◌ (key_so _ _ key.1) (ap₂ ◌∷◌ (measure_so 9999 _ _ quantity.1).0 (ap₂ ◌∷◌ (measure_so 999999999 _ _ amount.1).0 (ap₂ ◌∷◌ (measure_so 999999999 _ _ cost.1).0 refl)))) in
-    subst (λ s. row ≡ columns_of s) (same_value cost.2) columns
+    subst (λ s. row ≡ read_keyed_sale s) (same_value cost.2) columns
 
-keyed_complete : (which : FactColumn) (f : Fact) → has_good_columns f ≡ true → keyed_of (columns_of (keyed which f)) ≡ Ok (keyed which f)
+keyed_complete : (which : FactColumn) (f : Fact) → has_good_columns f ≡ true → keyed_of (read_keyed_sale (keyed which f)) ≡ Ok (keyed which f)
 unfolding keyed_of key_in
 keyed_complete which f valid =
     let cost = and_parts _ (is_measure 999999999 f.cost) valid in
@@ -98,11 +98,11 @@ keyed_complete which f valid =
     (bind_is _ f.cost _ (keyed which f) (measure_is 999999999 f.cost cost.1) refl)))
 
 -- what a function that reads gives, by what it reads
-pub keyed_ok : (row : Row) (result : Result KeyedSale (ParseError Damaged)) → Gives (λ s. s) result (keyed_of row) → IfOk result (λ s. row ≡ columns_of s)
+pub keyed_ok : (row : Row) (result : Result KeyedSale (ParseError Damaged)) → Gives (λ s. s) result (keyed_of row) → IfOk result (λ s. row ≡ read_keyed_sale s)
 keyed_ok row (Ok s) gives = keyed_sound row s gives
 keyed_ok row (Err e) gives = tt
 
-pub keyed_err : (row : Row) (result : Result KeyedSale (ParseError Damaged)) → Gives (λ s. s) result (keyed_of row) → IfErr result (λ e. e ≢ Memory → (which : FactColumn) (f : Fact) → IsTrue (has_good_columns f) → row ≢ columns_of (keyed which f))
+pub keyed_err : (row : Row) (result : Result KeyedSale (ParseError Damaged)) → Gives (λ s. s) result (keyed_of row) → IfErr result (λ e. e ≢ Memory → (which : FactColumn) (f : Fact) → IsTrue (has_good_columns f) → row ≢ read_keyed_sale (keyed which f))
 keyed_err row (Ok s) gives = tt
 keyed_err row (Err Memory) gives = λ fault. absurd (fault refl)
 keyed_err row (Err (Fault d)) gives = λ fault which f valid is. let one = sym gives ∙ ap keyed_of is ∙ keyed_complete which f valid in absurd (cc)
@@ -152,7 +152,7 @@ shows_sales2_in Two which = shows_sales2 which
 -- ---- what it shows of the facts that are stored
 
 -- a fact's row shows the fact's sale
-pub shown_fact : (which : FactColumn) (f : Fact) → shown_of which (encode_fact f) ≡ columns_of (keyed which f)
+pub shown_fact : (which : FactColumn) (f : Fact) → shown_of which (encode_fact f) ≡ read_keyed_sale (keyed which f)
 shown_fact (Surrogate Product) f = refl
 shown_fact (Surrogate Store) f = refl
 shown_fact (Surrogate Customer) f = refl
@@ -181,18 +181,18 @@ module _ (which : FactColumn) (old new : State) (answer : List Row) (shown : Sho
   shows_stored_sales stored is = IsPermutation-trans _ _ _ (IsPermutation-map (shown_of which) _ _ (IsPermutation-sym _ _ (is.rows tables.Fact))) (shows_each stored.format is.schema)
 
   -- a row of the answer that shows no fact is that of a damaged one
-  pub shows_damage : (shows : Row) → Has answer shows → ((f : Fact) → IsTrue (has_good_columns f) → shows ≢ columns_of (keyed which f)) → (stored : Stored) → IsStored stored old.now → HasDamage row.fact (stored.rows tables.Fact)
+  pub shows_damage : (shows : Row) → Has answer shows → ((f : Fact) → IsTrue (has_good_columns f) → shows ≢ read_keyed_sale (keyed which f)) → (stored : Stored) → IsStored stored old.now → HasDamage row.fact (stored.rows tables.Fact)
   shows_damage shows here none stored is =
       let found = has_mapped (shown_of which) (stored.rows tables.Fact) shows (has_again _ answer shows (shows_stored_sales stored is) here) in
       (found.0, found.1, λ f valid same. none f (and_parts (has_good_columns f) (f.discount == 0) valid).0 (found.2 ∙ ap (shown_of which) same ∙ shown_fact which f))
 
   -- of tables, the facts' sales
-  pub shows_typed_sales : (t : Tables) → Stores old.now t → (ordered : List Fact) × IsPermutation ordered (values t.fact) × (answer ≡ map columns_of (map (keyed which) ordered))
+  pub shows_typed_sales : (t : Tables) → Stores old.now t → (ordered : List Fact) × IsPermutation ordered (values t.fact) × (answer ≡ map read_keyed_sale (map (keyed which) ordered))
   shows_typed_sales t is =
       let facts = values t.fact in
-      let each : map (shown_of which) (map encode_fact facts) ≡ map (λ f. columns_of (keyed which f)) facts = map-map (shown_of which) encode_fact facts ∙ ap (λ f. map f facts) (λ i f. shown_fact which f i) in
-      let back = pull_back (λ f. columns_of (keyed which f)) _ answer (shows_stored_sales (stored_of t) (stores_stored old.now t is)) facts each in
-      (back.0, IsPermutation-sym _ _ back.1, back.2 ∙ sym (map-map columns_of (keyed which) back.0))
+      let each : map (shown_of which) (map encode_fact facts) ≡ map (λ f. read_keyed_sale (keyed which f)) facts = map-map (shown_of which) encode_fact facts ∙ ap (λ f. map f facts) (λ i f. shown_fact which f i) in
+      let back = pull_back (λ f. read_keyed_sale (keyed which f)) _ answer (shows_stored_sales (stored_of t) (stores_stored old.now t is)) facts each in
+      (back.0, IsPermutation-sym _ _ back.1, back.2 ∙ sym (map-map read_keyed_sale (keyed which) back.0))
 
 -- none of the facts of tables is damaged
 pub no_fact_damaged : (db : Database) (t : Tables) → Stores db t → ¬ HasDamage row.fact ((stored_of t).rows tables.Fact)
@@ -200,7 +200,7 @@ no_fact_damaged db t is = no_damage row.fact ((stored_of t).rows tables.Fact) (v
 
 -- ---- the same of the second format
 
-pub shown_fact2 : (which : FactColumn) (r : Fact) → shown_of which (encode_fact2 r) ≡ columns_of (keyed which r)
+pub shown_fact2 : (which : FactColumn) (r : Fact) → shown_of which (encode_fact2 r) ≡ read_keyed_sale (keyed which r)
 shown_fact2 (Surrogate Product) r = refl
 shown_fact2 (Surrogate Store) r = refl
 shown_fact2 (Surrogate Customer) r = refl
@@ -229,18 +229,18 @@ module _ (which : FactColumn) (old new : State) (answer : List Row) (shown : Sho
   shows_stored_sales2 stored is = IsPermutation-trans _ _ _ (IsPermutation-map (shown_of which) _ _ (IsPermutation-sym _ _ (is.rows tables.Fact2))) (shows_each2 stored.format is.schema)
 
   -- a row of the answer that shows no fact is that of a damaged one
-  pub shows_damage2 : (shows : Row) → Has answer shows → ((f : Fact) → IsTrue (has_good_columns f) → shows ≢ columns_of (keyed which f)) → (stored : Stored) → IsStored stored old.now → HasDamage row.fact2 (stored.rows tables.Fact2)
+  pub shows_damage2 : (shows : Row) → Has answer shows → ((f : Fact) → IsTrue (has_good_columns f) → shows ≢ read_keyed_sale (keyed which f)) → (stored : Stored) → IsStored stored old.now → HasDamage row.fact2 (stored.rows tables.Fact2)
   shows_damage2 shows here none stored is =
       let found = has_mapped (shown_of which) (stored.rows tables.Fact2) shows (has_again _ answer shows (shows_stored_sales2 stored is) here) in
       (found.0, found.1, λ r valid same. none r (and_parts (has_good_columns r) (is_discount r.discount) valid).0 (found.2 ∙ ap (shown_of which) same ∙ shown_fact2 which r))
 
   -- of tables, the facts' sales
-  pub shows_typed_sales2 : (t : Tables) → Stores old.now t → (ordered : List Fact) × IsPermutation ordered (values t.fact2) × (answer ≡ map columns_of (map (keyed which) ordered))
+  pub shows_typed_sales2 : (t : Tables) → Stores old.now t → (ordered : List Fact) × IsPermutation ordered (values t.fact2) × (answer ≡ map read_keyed_sale (map (keyed which) ordered))
   shows_typed_sales2 t is =
       let facts = values t.fact2 in
-      let each : map (shown_of which) (map encode_fact2 facts) ≡ map (λ f. columns_of (keyed which f)) facts = map-map (shown_of which) encode_fact2 facts ∙ ap (λ f. map f facts) (λ i f. shown_fact2 which f i) in
-      let back = pull_back (λ f. columns_of (keyed which f)) _ answer (shows_stored_sales2 (stored_of t) (stores_stored old.now t is)) facts each in
-      (back.0, IsPermutation-sym _ _ back.1, back.2 ∙ sym (map-map columns_of (keyed which) back.0))
+      let each : map (shown_of which) (map encode_fact2 facts) ≡ map (λ f. read_keyed_sale (keyed which f)) facts = map-map (shown_of which) encode_fact2 facts ∙ ap (λ f. map f facts) (λ i f. shown_fact2 which f i) in
+      let back = pull_back (λ f. read_keyed_sale (keyed which f)) _ answer (shows_stored_sales2 (stored_of t) (stores_stored old.now t is)) facts each in
+      (back.0, IsPermutation-sym _ _ back.1, back.2 ∙ sym (map-map read_keyed_sale (keyed which) back.0))
 
 pub no_fact2_damaged : (db : Database) (t : Tables) → Stores db t → ¬ HasDamage row.fact2 ((stored_of t).rows tables.Fact2)
 no_fact2_damaged db t is = no_damage row.fact2 ((stored_of t).rows tables.Fact2) (values t.fact2) (all_valid row.fact2.is_valid (entries t.fact2) (valid_in t.format row.fact2 db.trees t.fact2 is.fact2)) (IsPermutation-refl _)

@@ -5,7 +5,7 @@ use Rattle.std.specs.Cmp.Lexicographic.{nat_list_cmp_total}
 use Rattle.std.specs.FinMap.{nat_cmp-IsAntisymmetric}
 use Rattle.wh_policy.specs.declared.attribute.Dim.TheVariants.{Product, Store, Customer}
 use Rattle.wh_rows.specs.Rows.{encode_meta, encode_command, encode_member, encode_change, encode_dimension, encode_profile, encode_date, encode_fact, encode_fact2, encode_void, is_meta, is_command, is_member, is_change, is_dimension, is_profile, is_date, is_fact, is_fact2, is_void}
-use Rattle.wh_rows.specs.Stored.{meta_of, command_of, member_of, change_of, dimension_of, profile_of, date_of, fact_of, fact2_of, void_of}
+use Rattle.wh_rows.specs.Stored.{read_meta, read_command, read_member, read_change, read_dimension, read_profile, read_date, read_fact, read_fact2, read_void}
 use Rattle.wh_rows.proofs.Exact.{once_read, meta_complete, command_complete, member_complete, change_complete, dimension_complete, profile_complete, date_complete, fact_complete, fact2_complete, void_complete}
 use Rattle.wh_rows.specs.declared.table.Table.TheVariants.{Meta, Command, Member, Change, Product as OfProduct, Store as OfStore, Customer as OfCustomer, Profile, Calendar, Fact, Fact2, Void}
 use Rattle.wh_rows.specs.Names.{is_there}
@@ -19,7 +19,7 @@ use Rattle.wh_rows.proofs.Others.{at_place, meta_changed, command_changed, membe
 
 pub meta : IsPlaced row.meta (λ t. t.meta) (λ m t. record t { meta = m }) (is_there Meta)
 meta = record {
-  once = once_read meta_of encode_meta is_meta meta_complete;
+  once = once_read read_meta encode_meta is_meta meta_complete;
   total = nat_list_cmp_total;
   same = text_cmp-IsAntisymmetric;
   held = λ db t stored there. stored.meta;
@@ -36,7 +36,7 @@ meta = record {
 
 pub command : IsPlaced row.command (λ t. t.command) (λ m t. record t { command = m }) (is_there Command)
 command = record {
-  once = once_read command_of encode_command is_command command_complete;
+  once = once_read read_command encode_command is_command command_complete;
   total = nat_cmp_total;
   same = nat_cmp-IsAntisymmetric;
   held = λ db t stored there. stored.command;
@@ -53,7 +53,7 @@ command = record {
 
 pub member : IsPlaced row.member (λ t. t.member) (λ m t. record t { member = m }) (is_there Member)
 member = record {
-  once = once_read member_of encode_member is_member member_complete;
+  once = once_read read_member encode_member is_member member_complete;
   total = member_cmp_total;
   same = member_cmp-IsAntisymmetric;
   held = λ db t stored there. stored.member;
@@ -70,7 +70,7 @@ member = record {
 
 pub change : IsPlaced row.change (λ t. t.change) (λ m t. record t { change = m }) (is_there Change)
 change = record {
-  once = once_read change_of encode_change is_change change_complete;
+  once = once_read read_change encode_change is_change change_complete;
   total = change_cmp_total;
   same = change_cmp-IsAntisymmetric;
   held = λ db t stored there. stored.change;
@@ -87,7 +87,7 @@ change = record {
 
 pub product : IsPlaced row.product (λ t. t.product) (λ m t. record t { product = m }) (is_there OfProduct)
 product = record {
-  once = once_read (dimension_of Product) encode_dimension (is_dimension Product) (dimension_complete Product);
+  once = once_read (read_dimension Product) encode_dimension (is_dimension Product) (dimension_complete Product);
   total = nat_cmp_total;
   same = nat_cmp-IsAntisymmetric;
   held = λ db t stored there. stored.product;
@@ -104,7 +104,7 @@ product = record {
 
 pub store : IsPlaced row.store (λ t. t.store) (λ m t. record t { store = m }) (is_there OfStore)
 store = record {
-  once = once_read (dimension_of Store) encode_dimension (is_dimension Store) (dimension_complete Store);
+  once = once_read (read_dimension Store) encode_dimension (is_dimension Store) (dimension_complete Store);
   total = nat_cmp_total;
   same = nat_cmp-IsAntisymmetric;
   held = λ db t stored there. stored.store;
@@ -121,7 +121,7 @@ store = record {
 
 pub customer : IsPlaced row.customer (λ t. t.customer) (λ m t. record t { customer = m }) (is_there OfCustomer)
 customer = record {
-  once = once_read (dimension_of Customer) encode_dimension (is_dimension Customer) (dimension_complete Customer);
+  once = once_read (read_dimension Customer) encode_dimension (is_dimension Customer) (dimension_complete Customer);
   total = nat_cmp_total;
   same = nat_cmp-IsAntisymmetric;
   held = λ db t stored there. stored.customer;
@@ -138,7 +138,7 @@ customer = record {
 
 pub profile : IsPlaced row.profile (λ t. t.profile) (λ m t. record t { profile = m }) (is_there Profile)
 profile = record {
-  once = once_read profile_of encode_profile is_profile profile_complete;
+  once = once_read read_profile encode_profile is_profile profile_complete;
   total = nat_cmp_total;
   same = nat_cmp-IsAntisymmetric;
   held = λ db t stored there. stored.profile;
@@ -155,7 +155,7 @@ profile = record {
 
 pub calendar : IsPlaced row.calendar (λ t. t.calendar) (λ m t. record t { calendar = m }) (is_there Calendar)
 calendar = record {
-  once = once_read date_of encode_date is_date date_complete;
+  once = once_read read_date encode_date is_date date_complete;
   total = nat_cmp_total;
   same = nat_cmp-IsAntisymmetric;
   held = λ db t stored there. stored.calendar;
@@ -172,7 +172,7 @@ calendar = record {
 
 pub fact : IsPlaced row.fact (λ t. t.fact) (λ m t. record t { fact = m }) (is_there Fact)
 fact = record {
-  once = once_read fact_of encode_fact is_fact fact_complete;
+  once = once_read read_fact encode_fact is_fact fact_complete;
   total = line_cmp_total;
   same = line_cmp-IsAntisymmetric;
   held = λ db t stored there. stored.fact;
@@ -189,7 +189,7 @@ fact = record {
 
 pub fact2 : IsPlaced row.fact2 (λ t. t.fact2) (λ m t. record t { fact2 = m }) (is_there Fact2)
 fact2 = record {
-  once = once_read fact2_of encode_fact2 is_fact2 fact2_complete;
+  once = once_read read_fact2 encode_fact2 is_fact2 fact2_complete;
   total = line_cmp_total;
   same = line_cmp-IsAntisymmetric;
   held = λ db t stored there. holds_in t.format row.fact2 db.trees t.fact2 there stored.fact2;
@@ -206,7 +206,7 @@ fact2 = record {
 
 pub void : IsPlaced row.void (λ t. t.void) (λ m t. record t { void = m }) (is_there Void)
 void = record {
-  once = once_read void_of encode_void is_void void_complete;
+  once = once_read read_void encode_void is_void void_complete;
   total = line_cmp_total;
   same = line_cmp-IsAntisymmetric;
   held = λ db t stored there. holds_in t.format row.void db.trees t.void there stored.void;

@@ -5,12 +5,12 @@ use Rattle.sqlite_value.specs.declared.value.Value.{Value}
 use Rattle.sqlite_value.specs.declared.value.Value.TheVariants.{Null, Int, Text, Blob}
 use Rattle.sqlite_value.specs.Order.{Row, value_cmp}
 use Rattle.wh_policy.specs.declared.attribute.Dim.TheVariants.{Product, Store, Customer}
-use Rattle.wh_rows.specs.Names.{table_named}
+use Rattle.wh_rows.specs.Names.{table_of_name}
 use Rattle.wh_rows.specs.declared.table.Table.TheVariants.{Fact as FactTable}
 use Rattle.wh_rows.specs.Limits.{limits_of, greatest_limits}
 use Rattle.wh_rows.specs.Types.{is_key, is_kind}
 use Rattle.wh_rows.specs.Columns.{damaged, integer_of, number_of, line_of, measure_of, day_of, flag_of, dim_of, blob_of, text_of, slot_of}
-use Rattle.wh_rows.specs.Stored.{meta_of, command_of, member_of, change_of, dimension_of, profile_of, date_of, fact_of, fact2_of}
+use Rattle.wh_rows.specs.Stored.{read_meta, read_command, read_member, read_change, read_dimension, read_profile, read_date, read_fact, read_fact2}
 use Rattle.wh_rows.specs.KeyedSales.{shown_of, keyed_of}
 use Rattle.wh_rows.specs.declared.keyed_sale.FactColumn.TheVariants.{Surrogate, Durable, Profile, Day}
 use Rattle.wh_rows.specs.Questions.{anchor_column}
@@ -19,11 +19,11 @@ use Rattle.wh_rows.proofs.OnLiterals.{rows_on_literals}
 
 -- ---- names and limits
 
-fact_by_name : table_named (codes "fact") ≡ Some FactTable
+fact_by_name : table_of_name (codes "fact") ≡ Some FactTable
 unfolding rows_on_literals
 fact_by_name = refl
 
-no_such_name : table_named (codes "facts") ≡ None
+no_such_name : table_of_name (codes "facts") ≡ None
 unfolding rows_on_literals
 no_such_name = refl
 
@@ -227,120 +227,120 @@ number_in_slot = refl
 
 -- ---- product, store, customer
 
-product_row : dimension_of Product (Int (pos 3) ∷ Int (pos 1) ∷ Text (codes "P1") ∷ Int (pos 20240201) ∷ Int (pos 99991231) ∷ Int (pos 1) ∷ Text (codes "Cola 1l") ∷ Text (codes "Bolt") ∷ Text (codes "Drinks") ∷ Text (codes "Grocery") ∷ Text (codes "2019") ∷ Text (codes "North") ∷ Text [] ∷ Text [] ∷ Text (codes "Drinks") ∷ Text [] ∷ Text [] ∷ Text (codes "(none)") ∷ Int (pos 0) ∷ [])
+product_row : read_dimension Product (Int (pos 3) ∷ Int (pos 1) ∷ Text (codes "P1") ∷ Int (pos 20240201) ∷ Int (pos 99991231) ∷ Int (pos 1) ∷ Text (codes "Cola 1l") ∷ Text (codes "Bolt") ∷ Text (codes "Drinks") ∷ Text (codes "Grocery") ∷ Text (codes "2019") ∷ Text (codes "North") ∷ Text [] ∷ Text [] ∷ Text (codes "Drinks") ∷ Text [] ∷ Text [] ∷ Text (codes "(none)") ∷ Int (pos 0) ∷ [])
     ≡ Ok (record { surrogate = 3; durable = 1; natural = codes "P1"; from_day = 20240201; to_day = 99991231; is_current = true; a = codes "Cola 1l" ∷ codes "Bolt" ∷ codes "Drinks" ∷ codes "Grocery" ∷ codes "2019" ∷ codes "North" ∷ []; b = [] ∷ [] ∷ codes "Drinks" ∷ [] ∷ [] ∷ codes "(none)" ∷ []; profile_now = 0 })
 unfolding rows_on_literals
 product_row = refl
 
-customer_row_0 : dimension_of Customer (Int (pos 0) ∷ Int (pos 0) ∷ Text (codes "(no card)") ∷ Int (pos 19000101) ∷ Int (pos 99991231) ∷ Int (pos 1) ∷ Text (codes "(no card)") ∷ Text [] ∷ Text [] ∷ Text [] ∷ Text [] ∷ Text [] ∷ Text [] ∷ Text [] ∷ Text [] ∷ Text [] ∷ Text [] ∷ Text [] ∷ Int (pos 0) ∷ [])
+customer_row_0 : read_dimension Customer (Int (pos 0) ∷ Int (pos 0) ∷ Text (codes "(no card)") ∷ Int (pos 19000101) ∷ Int (pos 99991231) ∷ Int (pos 1) ∷ Text (codes "(no card)") ∷ Text [] ∷ Text [] ∷ Text [] ∷ Text [] ∷ Text [] ∷ Text [] ∷ Text [] ∷ Text [] ∷ Text [] ∷ Text [] ∷ Text [] ∷ Int (pos 0) ∷ [])
     ≡ Ok (record { surrogate = 0; durable = 0; natural = codes "(no card)"; from_day = 19000101; to_day = 99991231; is_current = true; a = codes "(no card)" ∷ [] ∷ [] ∷ [] ∷ [] ∷ [] ∷ []; b = [] ∷ [] ∷ [] ∷ [] ∷ [] ∷ [] ∷ []; profile_now = 0 })
 unfolding rows_on_literals
 customer_row_0 = refl
 
-no_card_in_another_row : dimension_of Customer (Int (pos 1) ∷ Int (pos 0) ∷ Text (codes "(no card)") ∷ Int (pos 19000101) ∷ Int (pos 99991231) ∷ Int (pos 1) ∷ Text (codes "(no card)") ∷ Text [] ∷ Text [] ∷ Text [] ∷ Text [] ∷ Text [] ∷ Text [] ∷ Text [] ∷ Text [] ∷ Text [] ∷ Text [] ∷ Text [] ∷ Int (pos 0) ∷ []) ≡ damaged
+no_card_in_another_row : read_dimension Customer (Int (pos 1) ∷ Int (pos 0) ∷ Text (codes "(no card)") ∷ Int (pos 19000101) ∷ Int (pos 99991231) ∷ Int (pos 1) ∷ Text (codes "(no card)") ∷ Text [] ∷ Text [] ∷ Text [] ∷ Text [] ∷ Text [] ∷ Text [] ∷ Text [] ∷ Text [] ∷ Text [] ∷ Text [] ∷ Text [] ∷ Int (pos 0) ∷ []) ≡ damaged
 unfolding rows_on_literals
 no_card_in_another_row = refl
 
-no_card_in_store : dimension_of Store (Int (pos 0) ∷ Int (pos 0) ∷ Text (codes "(no card)") ∷ Int (pos 19000101) ∷ Int (pos 99991231) ∷ Int (pos 1) ∷ Text (codes "(no card)") ∷ Text [] ∷ Text [] ∷ Text [] ∷ Text [] ∷ Text [] ∷ Text [] ∷ Text [] ∷ Text [] ∷ Text [] ∷ Text [] ∷ Text [] ∷ Int (pos 0) ∷ []) ≡ damaged
+no_card_in_store : read_dimension Store (Int (pos 0) ∷ Int (pos 0) ∷ Text (codes "(no card)") ∷ Int (pos 19000101) ∷ Int (pos 99991231) ∷ Int (pos 1) ∷ Text (codes "(no card)") ∷ Text [] ∷ Text [] ∷ Text [] ∷ Text [] ∷ Text [] ∷ Text [] ∷ Text [] ∷ Text [] ∷ Text [] ∷ Text [] ∷ Text [] ∷ Int (pos 0) ∷ []) ≡ damaged
 unfolding rows_on_literals
 no_card_in_store = refl
 
-flag_of_two : dimension_of Product (Int (pos 3) ∷ Int (pos 1) ∷ Text (codes "P1") ∷ Int (pos 20240201) ∷ Int (pos 99991231) ∷ Int (pos 2) ∷ Text (codes "Cola 1l") ∷ Text (codes "Bolt") ∷ Text (codes "Drinks") ∷ Text (codes "Grocery") ∷ Text (codes "2019") ∷ Text (codes "North") ∷ Text [] ∷ Text [] ∷ Text (codes "Drinks") ∷ Text [] ∷ Text [] ∷ Text (codes "(none)") ∷ Int (pos 0) ∷ []) ≡ damaged
+flag_of_two : read_dimension Product (Int (pos 3) ∷ Int (pos 1) ∷ Text (codes "P1") ∷ Int (pos 20240201) ∷ Int (pos 99991231) ∷ Int (pos 2) ∷ Text (codes "Cola 1l") ∷ Text (codes "Bolt") ∷ Text (codes "Drinks") ∷ Text (codes "Grocery") ∷ Text (codes "2019") ∷ Text (codes "North") ∷ Text [] ∷ Text [] ∷ Text (codes "Drinks") ∷ Text [] ∷ Text [] ∷ Text (codes "(none)") ∷ Int (pos 0) ∷ []) ≡ damaged
 unfolding rows_on_literals
 flag_of_two = refl
 
-no_day_in_product : dimension_of Product (Int (pos 3) ∷ Int (pos 1) ∷ Text (codes "P1") ∷ Int (pos 20240201) ∷ Int (pos 20240230) ∷ Int (pos 1) ∷ Text (codes "Cola 1l") ∷ Text (codes "Bolt") ∷ Text (codes "Drinks") ∷ Text (codes "Grocery") ∷ Text (codes "2019") ∷ Text (codes "North") ∷ Text [] ∷ Text [] ∷ Text (codes "Drinks") ∷ Text [] ∷ Text [] ∷ Text (codes "(none)") ∷ Int (pos 0) ∷ []) ≡ damaged
+no_day_in_product : read_dimension Product (Int (pos 3) ∷ Int (pos 1) ∷ Text (codes "P1") ∷ Int (pos 20240201) ∷ Int (pos 20240230) ∷ Int (pos 1) ∷ Text (codes "Cola 1l") ∷ Text (codes "Bolt") ∷ Text (codes "Drinks") ∷ Text (codes "Grocery") ∷ Text (codes "2019") ∷ Text (codes "North") ∷ Text [] ∷ Text [] ∷ Text (codes "Drinks") ∷ Text [] ∷ Text [] ∷ Text (codes "(none)") ∷ Int (pos 0) ∷ []) ≡ damaged
 unfolding rows_on_literals
 no_day_in_product = refl
 
-a_column_too_few : dimension_of Product (Int (pos 3) ∷ []) ≡ damaged
+a_column_too_few : read_dimension Product (Int (pos 3) ∷ []) ≡ damaged
 unfolding rows_on_literals
 a_column_too_few = refl
 
 -- ---- the other tables
 
-meta_row : meta_of (Text (codes "format") ∷ Int (pos 1) ∷ []) ≡ Ok (record { name = codes "format"; value = pos 1 })
+meta_row : read_meta (Text (codes "format") ∷ Int (pos 1) ∷ []) ≡ Ok (record { name = codes "format"; value = pos 1 })
 unfolding rows_on_literals
 meta_row = refl
 
-meta_of_a_text : meta_of (Text (codes "format") ∷ Text (codes "1") ∷ []) ≡ damaged
+meta_of_a_text : read_meta (Text (codes "format") ∷ Text (codes "1") ∷ []) ≡ damaged
 unfolding rows_on_literals
 meta_of_a_text = refl
 
-command_row : command_of (Int (pos 5) ∷ Text (codes "s1") ∷ Text (codes "sales") ∷ Blob (codes "x") ∷ Int (pos 2) ∷ Int (pos 1) ∷ [])
+command_row : read_command (Int (pos 5) ∷ Text (codes "s1") ∷ Text (codes "sales") ∷ Blob (codes "x") ∷ Int (pos 2) ∷ Int (pos 1) ∷ [])
     ≡ Ok (record { number = 5; id = codes "s1"; kind = codes "sales"; bytes = codes "x"; records = 2; placeholders = 1 })
 unfolding rows_on_literals
 command_row = refl
 
-id_of_forty : command_of (Int (pos 5) ∷ Text (replicate 41 65) ∷ Text (codes "sales") ∷ Blob (codes "x") ∷ Int (pos 2) ∷ Int (pos 1) ∷ []) ≡ damaged
+id_of_forty : read_command (Int (pos 5) ∷ Text (replicate 41 65) ∷ Text (codes "sales") ∷ Blob (codes "x") ∷ Int (pos 2) ∷ Int (pos 1) ∷ []) ≡ damaged
 unfolding rows_on_literals
 id_of_forty = refl
 
-kind_of_none : command_of (Int (pos 5) ∷ Text (codes "s1") ∷ Text (codes "voids") ∷ Blob (codes "x") ∷ Int (pos 2) ∷ Int (pos 1) ∷ []) ≡ damaged
+kind_of_none : read_command (Int (pos 5) ∷ Text (codes "s1") ∷ Text (codes "voids") ∷ Blob (codes "x") ∷ Int (pos 2) ∷ Int (pos 1) ∷ []) ≡ damaged
 unfolding rows_on_literals
 kind_of_none = refl
 
-member_row : member_of (Int (pos 1) ∷ Int (pos 2) ∷ Text (codes "P9") ∷ Int (pos 9) ∷ []) ≡ Ok (record { dim = Product; durable = 2; natural = codes "P9"; opening = 9 })
+member_row : read_member (Int (pos 1) ∷ Int (pos 2) ∷ Text (codes "P9") ∷ Int (pos 9) ∷ []) ≡ Ok (record { dim = Product; durable = 2; natural = codes "P9"; opening = 9 })
 unfolding rows_on_literals
 member_row = refl
 
-member_of_dimension_4 : member_of (Int (pos 4) ∷ Int (pos 2) ∷ Text (codes "P9") ∷ Int (pos 9) ∷ []) ≡ damaged
+member_of_dimension_4 : read_member (Int (pos 4) ∷ Int (pos 2) ∷ Text (codes "P9") ∷ Int (pos 9) ∷ []) ≡ damaged
 unfolding rows_on_literals
 member_of_dimension_4 = refl
 
-no_member_without_card : member_of (Int (pos 3) ∷ Int (pos 0) ∷ Text (codes "(no card)") ∷ Int (pos 0) ∷ []) ≡ damaged
+no_member_without_card : read_member (Int (pos 3) ∷ Int (pos 0) ∷ Text (codes "(no card)") ∷ Int (pos 0) ∷ []) ≡ damaged
 unfolding rows_on_literals
 no_member_without_card = refl
 
-change_row : change_of (Int (pos 6) ∷ Int (pos 1) ∷ Int (pos 1) ∷ Int (pos 1) ∷ Int (pos 20240120) ∷ Int (pos 4) ∷ Text (codes "Cola 1l") ∷ Text (codes "Bolt") ∷ Text [] ∷ Text [] ∷ Text [] ∷ Text [] ∷ [])
+change_row : read_change (Int (pos 6) ∷ Int (pos 1) ∷ Int (pos 1) ∷ Int (pos 1) ∷ Int (pos 20240120) ∷ Int (pos 4) ∷ Text (codes "Cola 1l") ∷ Text (codes "Bolt") ∷ Text [] ∷ Text [] ∷ Text [] ∷ Text [] ∷ [])
     ≡ Ok (record { command = 6; place = 1; dim = Product; durable = 1; day = 20240120; anchor = 4; values = codes "Cola 1l" ∷ codes "Bolt" ∷ [] ∷ [] ∷ [] ∷ [] ∷ [] })
 unfolding rows_on_literals
 change_row = refl
 
-change_on_no_day : change_of (Int (pos 6) ∷ Int (pos 1) ∷ Int (pos 1) ∷ Int (pos 1) ∷ Int (pos 20240132) ∷ Int (pos 4) ∷ Text (codes "Cola 1l") ∷ Text (codes "Bolt") ∷ Text [] ∷ Text [] ∷ Text [] ∷ Text [] ∷ []) ≡ damaged
+change_on_no_day : read_change (Int (pos 6) ∷ Int (pos 1) ∷ Int (pos 1) ∷ Int (pos 1) ∷ Int (pos 20240132) ∷ Int (pos 4) ∷ Text (codes "Cola 1l") ∷ Text (codes "Bolt") ∷ Text [] ∷ Text [] ∷ Text [] ∷ Text [] ∷ []) ≡ damaged
 unfolding rows_on_literals
 change_on_no_day = refl
 
-profile_row : profile_of (Int (pos 2) ∷ Text [] ∷ Text (codes "30-39") ∷ Text (codes "high") ∷ Text [] ∷ Text [] ∷ Text [] ∷ []) ≡ Ok (record { number = 2; values = [] ∷ codes "30-39" ∷ codes "high" ∷ [] ∷ [] ∷ [] ∷ [] })
+profile_row : read_profile (Int (pos 2) ∷ Text [] ∷ Text (codes "30-39") ∷ Text (codes "high") ∷ Text [] ∷ Text [] ∷ Text [] ∷ []) ≡ Ok (record { number = 2; values = [] ∷ codes "30-39" ∷ codes "high" ∷ [] ∷ [] ∷ [] ∷ [] })
 unfolding rows_on_literals
 profile_row = refl
 
-profile_below_0 : profile_of (Int (negsuc 0) ∷ Text [] ∷ Text (codes "30-39") ∷ Text (codes "high") ∷ Text [] ∷ Text [] ∷ Text [] ∷ []) ≡ damaged
+profile_below_0 : read_profile (Int (negsuc 0) ∷ Text [] ∷ Text (codes "30-39") ∷ Text (codes "high") ∷ Text [] ∷ Text [] ∷ Text [] ∷ []) ≡ damaged
 unfolding rows_on_literals
 profile_below_0 = refl
 
-date_row : date_of (Int (pos 20241225) ∷ Text (codes "2024-12-25") ∷ Int (pos 2024) ∷ Int (pos 4) ∷ Int (pos 12) ∷ Int (pos 25) ∷ Int (pos 360) ∷ Int (pos 3) ∷ Text (codes "Wednesday") ∷ Int (pos 0) ∷ Text (codes "Christmas Day") ∷ [])
+date_row : read_date (Int (pos 20241225) ∷ Text (codes "2024-12-25") ∷ Int (pos 2024) ∷ Int (pos 4) ∷ Int (pos 12) ∷ Int (pos 25) ∷ Int (pos 360) ∷ Int (pos 3) ∷ Text (codes "Wednesday") ∷ Int (pos 0) ∷ Text (codes "Christmas Day") ∷ [])
     ≡ Ok (record { date_key = 20241225; iso = codes "2024-12-25"; year = pos 2024; quarter = pos 4; month = pos 12; day = pos 25; day_of_year = pos 360; weekday = pos 3; weekday_name = codes "Wednesday"; weekend = false; holiday = codes "Christmas Day" })
 unfolding rows_on_literals
 date_row = refl
 
-date_of_no_day : date_of (Int (pos 20241232) ∷ Text (codes "2024-12-25") ∷ Int (pos 2024) ∷ Int (pos 4) ∷ Int (pos 12) ∷ Int (pos 25) ∷ Int (pos 360) ∷ Int (pos 3) ∷ Text (codes "Wednesday") ∷ Int (pos 0) ∷ Text (codes "Christmas Day") ∷ []) ≡ damaged
+date_of_no_day : read_date (Int (pos 20241232) ∷ Text (codes "2024-12-25") ∷ Int (pos 2024) ∷ Int (pos 4) ∷ Int (pos 12) ∷ Int (pos 25) ∷ Int (pos 360) ∷ Int (pos 3) ∷ Text (codes "Wednesday") ∷ Int (pos 0) ∷ Text (codes "Christmas Day") ∷ []) ≡ damaged
 unfolding rows_on_literals
 date_of_no_day = refl
 
-weekend_of_two : date_of (Int (pos 20241225) ∷ Text (codes "2024-12-25") ∷ Int (pos 2024) ∷ Int (pos 4) ∷ Int (pos 12) ∷ Int (pos 25) ∷ Int (pos 360) ∷ Int (pos 3) ∷ Text (codes "Wednesday") ∷ Int (pos 2) ∷ Text (codes "Christmas Day") ∷ []) ≡ damaged
+weekend_of_two : read_date (Int (pos 20241225) ∷ Text (codes "2024-12-25") ∷ Int (pos 2024) ∷ Int (pos 4) ∷ Int (pos 12) ∷ Int (pos 25) ∷ Int (pos 360) ∷ Int (pos 3) ∷ Text (codes "Wednesday") ∷ Int (pos 2) ∷ Text (codes "Christmas Day") ∷ []) ≡ damaged
 unfolding rows_on_literals
 weekend_of_two = refl
 
-fact_row : fact_of (Text (codes "T2") ∷ Int (pos 1) ∷ Int (pos 20240610) ∷ Int (pos 1) ∷ Int (pos 9) ∷ Int (pos 1) ∷ Int (pos 1) ∷ Int (pos 2) ∷ Int (pos 1) ∷ Int (pos 1) ∷ Int (pos 1) ∷ Int (pos 1000) ∷ Int (pos 700) ∷ [])
+fact_row : read_fact (Text (codes "T2") ∷ Int (pos 1) ∷ Int (pos 20240610) ∷ Int (pos 1) ∷ Int (pos 9) ∷ Int (pos 1) ∷ Int (pos 1) ∷ Int (pos 2) ∷ Int (pos 1) ∷ Int (pos 1) ∷ Int (pos 1) ∷ Int (pos 1000) ∷ Int (pos 700) ∷ [])
     ≡ Ok (record { ticket = codes "T2"; line = 1; day = 20240610; keys = record { store_key = 1; product_key = 9; customer_key = 1; profile = 1 }; store_durable = 1; product_durable = 2; customer_durable = 1; quantity = pos 1; amount = pos 1000; cost = pos 700; discount = 0 })
 unfolding rows_on_literals
 fact_row = refl
 
-fact_with_discount : fact2_of (Text (codes "T5") ∷ Int (pos 1) ∷ Int (pos 20240705) ∷ Int (pos 1) ∷ Int (pos 6) ∷ Int (pos 1) ∷ Int (pos 1) ∷ Int (pos 1) ∷ Int (pos 1) ∷ Int (pos 3) ∷ Int (pos 2) ∷ Int (pos 500) ∷ Int (pos 320) ∷ Int (pos 50) ∷ [])
+fact_with_discount : read_fact2 (Text (codes "T5") ∷ Int (pos 1) ∷ Int (pos 20240705) ∷ Int (pos 1) ∷ Int (pos 6) ∷ Int (pos 1) ∷ Int (pos 1) ∷ Int (pos 1) ∷ Int (pos 1) ∷ Int (pos 3) ∷ Int (pos 2) ∷ Int (pos 500) ∷ Int (pos 320) ∷ Int (pos 50) ∷ [])
     ≡ Ok (record { ticket = codes "T5"; line = 1; day = 20240705; keys = record { store_key = 1; product_key = 6; customer_key = 1; profile = 3 }; store_durable = 1; product_durable = 1; customer_durable = 1; quantity = pos 2; amount = pos 500; cost = pos 320; discount = 50 })
 unfolding rows_on_literals
 fact_with_discount = refl
 
-ticket_with_space : fact_of (Text (codes "T 2") ∷ Int (pos 1) ∷ Int (pos 20240610) ∷ Int (pos 1) ∷ Int (pos 9) ∷ Int (pos 1) ∷ Int (pos 1) ∷ Int (pos 2) ∷ Int (pos 1) ∷ Int (pos 1) ∷ Int (pos 1) ∷ Int (pos 1000) ∷ Int (pos 700) ∷ []) ≡ damaged
+ticket_with_space : read_fact (Text (codes "T 2") ∷ Int (pos 1) ∷ Int (pos 20240610) ∷ Int (pos 1) ∷ Int (pos 9) ∷ Int (pos 1) ∷ Int (pos 1) ∷ Int (pos 2) ∷ Int (pos 1) ∷ Int (pos 1) ∷ Int (pos 1) ∷ Int (pos 1000) ∷ Int (pos 700) ∷ []) ≡ damaged
 unfolding rows_on_literals
 ticket_with_space = refl
 
-line_10000 : fact_of (Text (codes "T2") ∷ Int (pos 10000) ∷ Int (pos 20240610) ∷ Int (pos 1) ∷ Int (pos 9) ∷ Int (pos 1) ∷ Int (pos 1) ∷ Int (pos 2) ∷ Int (pos 1) ∷ Int (pos 1) ∷ Int (pos 1) ∷ Int (pos 1000) ∷ Int (pos 700) ∷ []) ≡ damaged
+line_10000 : read_fact (Text (codes "T2") ∷ Int (pos 10000) ∷ Int (pos 20240610) ∷ Int (pos 1) ∷ Int (pos 9) ∷ Int (pos 1) ∷ Int (pos 1) ∷ Int (pos 2) ∷ Int (pos 1) ∷ Int (pos 1) ∷ Int (pos 1) ∷ Int (pos 1000) ∷ Int (pos 700) ∷ []) ≡ damaged
 unfolding rows_on_literals
 line_10000 = refl
 
-quantity_10000 : fact_of (Text (codes "T2") ∷ Int (pos 1) ∷ Int (pos 20240610) ∷ Int (pos 1) ∷ Int (pos 9) ∷ Int (pos 1) ∷ Int (pos 1) ∷ Int (pos 2) ∷ Int (pos 1) ∷ Int (pos 1) ∷ Int (pos 10000) ∷ Int (pos 1000) ∷ Int (pos 700) ∷ []) ≡ damaged
+quantity_10000 : read_fact (Text (codes "T2") ∷ Int (pos 1) ∷ Int (pos 20240610) ∷ Int (pos 1) ∷ Int (pos 9) ∷ Int (pos 1) ∷ Int (pos 1) ∷ Int (pos 2) ∷ Int (pos 1) ∷ Int (pos 1) ∷ Int (pos 10000) ∷ Int (pos 1000) ∷ Int (pos 700) ∷ []) ≡ damaged
 unfolding rows_on_literals
 quantity_10000 = refl
 

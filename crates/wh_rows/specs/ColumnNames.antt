@@ -21,5 +21,5 @@ table_in_schema Fact2 = schema.fact2
 table_in_schema Void = schema.void
 
 -- the names of a table's columns, in their order
-abbrev pub column_names : Table → List (List ℕ)
-column_names table = map (λ c. c.name) (table_in_schema table).columns
+abbrev pub table_columns : Table → List (List ℕ)
+table_columns table = map (λ c. c.name) (table_in_schema table).columns

@@ -45,8 +45,8 @@ abbrev pub keyed : FactColumn → Fact → KeyedSale
 keyed which f = record { day = f.day; key = key_of which f; quantity = f.quantity; amount = f.amount; cost = f.cost }
 
 -- how it is shown
-abbrev pub columns_of : KeyedSale → Row
-columns_of s = Int (pos s.day) ∷ Int (pos s.key) ∷ Int s.quantity ∷ Int s.amount ∷ Int s.cost ∷ []
+abbrev pub read_keyed_sale : KeyedSale → Row
+read_keyed_sale s = Int (pos s.day) ∷ Int (pos s.key) ∷ Int s.quantity ∷ Int s.amount ∷ Int s.cost ∷ []
 
 -- a key in a column: a number or a day
 unfoldable pub key_in : Value → Result ℕ Damaged

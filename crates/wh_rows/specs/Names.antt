@@ -25,8 +25,8 @@ abbrev pub every_table : List Table
 every_table = Meta ∷ Command ∷ Member ∷ Change ∷ Product ∷ Store ∷ Customer ∷ Profile ∷ Calendar ∷ Fact ∷ Fact2 ∷ Void ∷ []
 
 -- the table of a name, if one has it
-abbrev pub table_named : List ℕ → Option Table
-table_named name = find (λ table. bytes_eq name (table_name table)) every_table
+abbrev pub table_of_name : List ℕ → Option Table
+table_of_name name = find (λ table. bytes_eq name (table_name table)) every_table
 
 -- a warehouse of the format has the table
 abbrev pub is_there : Table → Format → Bool

@@ -23,8 +23,8 @@ meta_columns row = do
   value ← integer_of (column row 1)
   Ok (record { name = name; value = value })
 
-unfoldable pub meta_of : Row → Result MetaRow Damaged
-meta_of row = if length row == 2 then meta_columns row else damaged
+unfoldable pub read_meta : Row → Result MetaRow Damaged
+read_meta row = if length row == 2 then meta_columns row else damaged
 
 abbrev pub command_columns : Row → Result CommandRow Damaged
 command_columns row = do
@@ -36,8 +36,8 @@ command_columns row = do
   placeholders ← number_of (column row 5)
   Ok (record { number = number; id = id; kind = kind; bytes = bytes; records = records; placeholders = placeholders })
 
-unfoldable pub command_of : Row → Result CommandRow Damaged
-command_of row = if length row == 6 then command_columns row else damaged
+unfoldable pub read_command : Row → Result CommandRow Damaged
+read_command row = if length row == 6 then command_columns row else damaged
 
 abbrev pub member_columns : Row → Result MemberRow Damaged
 member_columns row = do
@@ -47,8 +47,8 @@ member_columns row = do
   opening ← number_of (column row 3)
   Ok (record { dim = dim; durable = durable; natural = natural; opening = opening })
 
-unfoldable pub member_of : Row → Result MemberRow Damaged
-member_of row = if length row == 4 then member_columns row else damaged
+unfoldable pub read_member : Row → Result MemberRow Damaged
+read_member row = if length row == 4 then member_columns row else damaged
 
 abbrev pub change_columns : Row → Result ChangeRow Damaged
 change_columns row = do
@@ -61,8 +61,8 @@ change_columns row = do
   values ← slots_of row 6
   Ok (record { command = command; place = place; dim = dim; durable = durable; day = day; anchor = anchor; values = values })
 
-unfoldable pub change_of : Row → Result ChangeRow Damaged
-change_of row = if length row == 12 then change_columns row else damaged
+unfoldable pub read_change : Row → Result ChangeRow Damaged
+read_change row = if length row == 12 then change_columns row else damaged
 
 abbrev pub dimension_columns : Dim → Row → Result DimRow Damaged
 dimension_columns dim row = do
@@ -77,8 +77,8 @@ dimension_columns dim row = do
   profile_now ← number_of (column row 18)
   Ok (record { surrogate = surrogate; durable = durable; natural = natural; from_day = from_day; to_day = to_day; is_current = is_current; a = a; b = b; profile_now = profile_now })
 
-unfoldable pub dimension_of : Dim → Row → Result DimRow Damaged
-dimension_of dim row = if length row == 19 then dimension_columns dim row else damaged
+unfoldable pub read_dimension : Dim → Row → Result DimRow Damaged
+read_dimension dim row = if length row == 19 then dimension_columns dim row else damaged
 
 abbrev pub profile_columns : Row → Result ProfileRow Damaged
 profile_columns row = do
@@ -86,8 +86,8 @@ profile_columns row = do
   values ← slots_of row 1
   Ok (record { number = number; values = values })
 
-unfoldable pub profile_of : Row → Result ProfileRow Damaged
-profile_of row = if length row == 7 then profile_columns row else damaged
+unfoldable pub read_profile : Row → Result ProfileRow Damaged
+read_profile row = if length row == 7 then profile_columns row else damaged
 
 abbrev pub date_columns : Row → Result DateRow Damaged
 date_columns row = do
@@ -104,8 +104,8 @@ date_columns row = do
   holiday ← text_of (column row 10)
   Ok (record { date_key = date_key; iso = iso; year = year; quarter = quarter; month = month; day = day; day_of_year = day_of_year; weekday = weekday; weekday_name = weekday_name; weekend = weekend; holiday = holiday })
 
-unfoldable pub date_of : Row → Result DateRow Damaged
-date_of row = if length row == 11 then date_columns row else damaged
+unfoldable pub read_date : Row → Result DateRow Damaged
+read_date row = if length row == 11 then date_columns row else damaged
 
 abbrev pub fact_columns : Row → Result Fact Damaged
 fact_columns row = do
@@ -124,8 +124,8 @@ fact_columns row = do
   cost ← measure_of 999999999 (column row 12)
   Ok (record { ticket = ticket; line = line; day = day; keys = record { store_key = store_key; product_key = product_key; customer_key = customer_key; profile = profile }; store_durable = store_durable; product_durable = product_durable; customer_durable = customer_durable; quantity = quantity; amount = amount; cost = cost; discount = 0 })
 
-unfoldable pub fact_of : Row → Result Fact Damaged
-fact_of row = if length row == 13 then fact_columns row else damaged
+unfoldable pub read_fact : Row → Result Fact Damaged
+read_fact row = if length row == 13 then fact_columns row else damaged
 
 abbrev pub fact2_columns : Row → Result Fact Damaged
 fact2_columns row = do
@@ -133,8 +133,8 @@ fact2_columns row = do
   discount ← discount_of (column row 13)
   Ok (record fact { discount = discount })
 
-unfoldable pub fact2_of : Row → Result Fact Damaged
-fact2_of row = if length row == 14 then fact2_columns row else damaged
+unfoldable pub read_fact2 : Row → Result Fact Damaged
+read_fact2 row = if length row == 14 then fact2_columns row else damaged
 
 abbrev pub void_columns : Row → Result VoidRow Damaged
 void_columns row = do
@@ -143,5 +143,5 @@ void_columns row = do
   command ← number_of (column row 2)
   Ok (record { ticket = ticket; line = line; command = command })
 
-unfoldable pub void_of : Row → Result VoidRow Damaged
-void_of row = if length row == 3 then void_columns row else damaged
+unfoldable pub read_void : Row → Result VoidRow Damaged
+read_void row = if length row == 3 then void_columns row else damaged

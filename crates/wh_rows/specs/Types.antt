@@ -6,7 +6,7 @@ pub use Rattle.wh_day.specs.Value.{is_given}
 use Rattle.wh_day.specs.Value.{none_text, unknown_text, no_card_text}
 use Rattle.wh_policy.specs.declared.attribute.Dim.{Dim}
 use Rattle.wh_policy.specs.declared.attribute.Dim.TheVariants.{Product, Store, Customer}
-use Rattle.wh_policy.specs.Words.{word_of, every_dim}
+use Rattle.wh_policy.specs.Words.{dim_word, every_dim}
 use Rattle.wh_history.specs.Keys.{greatest_number}
 
 -- a key, a number or a count
@@ -27,7 +27,7 @@ is_discount n = nat_le n 999999999
 
 -- what a command can be: the making of the warehouse, a new policy, an upgrade, or a batch of sales, of voids or for a dimension
 abbrev pub kinds : List (List ℕ)
-kinds = codes "init" ∷ codes "migrate" ∷ codes "upgrade" ∷ codes "sales" ∷ codes "void" ∷ map word_of every_dim
+kinds = codes "init" ∷ codes "migrate" ∷ codes "upgrade" ∷ codes "sales" ∷ codes "void" ∷ map dim_word every_dim
 
 abbrev pub is_kind : List ℕ → Bool
 is_kind text = list_any (bytes_eq text) kinds

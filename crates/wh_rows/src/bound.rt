@@ -67,7 +67,7 @@ fn flag(is: bool) -> ValueRef<'static>
 }
 
 /// The text of a slot, from 0.
-fn slot<'a>(texts: &'a Values, slot: usize) -> ValueRef<'a>
+fn slot_column<'a>(texts: &'a Values, slot: usize) -> ValueRef<'a>
     ensures { owned result ≡ slot_column texts.now slot }
 {
     match texts.as_slice().get(slot) {
@@ -77,26 +77,26 @@ fn slot<'a>(texts: &'a Values, slot: usize) -> ValueRef<'a>
 }
 
 /// The texts of the six slots; a slot that isn't there is empty. `Memory`: a growth was refused.
-pub fn slots<'a>(alloc: Global, texts: &'a Values) -> Result<Vec<ValueRef<'a>>, Cause>
+pub fn slot_columns<'a>(alloc: Global, texts: &'a Values) -> Result<Vec<ValueRef<'a>>, Cause>
     ensures ok { IfOk result (λ values. bound values.items ≡ slot_columns texts.now) }
     ensures err { IfErr result (λ cause. cause ≡ Memory) }
 {
     let values = Vec::from_array(
         alloc,
         [
-            slot(texts, 0),
-            slot(texts, 1),
-            slot(texts, 2),
-            slot(texts, 3),
-            slot(texts, 4),
-            slot(texts, 5),
+            slot_column(texts, 0),
+            slot_column(texts, 1),
+            slot_column(texts, 2),
+            slot_column(texts, 3),
+            slot_column(texts, 4),
+            slot_column(texts, 5),
         ],
     )?;
     Ok(values)
 }
 
 /// A row of meta. `Memory`: a growth was refused; nothing else is an error.
-pub fn meta<'a>(alloc: Global, row: &'a MetaRow) -> Result<Vec<ValueRef<'a>>, Cause>
+pub fn encode_meta<'a>(alloc: Global, row: &'a MetaRow) -> Result<Vec<ValueRef<'a>>, Cause>
     ensures ok { IfOk result (λ values. bound values.items ≡ encode_meta row.now) }
     ensures err { IfErr result (λ cause. cause ≡ Memory) }
 {
@@ -105,7 +105,7 @@ pub fn meta<'a>(alloc: Global, row: &'a MetaRow) -> Result<Vec<ValueRef<'a>>, Ca
 }
 
 /// A row of command. `Size`: its number, its records or its placeholders are above 9,999,999. `Memory`: a growth was refused.
-pub fn command<'a>(alloc: Global, row: &'a CommandRow) -> Result<Vec<ValueRef<'a>>, Cause>
+pub fn encode_command<'a>(alloc: Global, row: &'a CommandRow) -> Result<Vec<ValueRef<'a>>, Cause>
     ensures ok { IfOk result (λ values. bound values.items ≡ encode_command row.now) }
     ensures err { IfErr result (λ cause. cause ≢ Memory → (cause ≡ Size) × (is_command row.now ≡ false)) }
 {
@@ -127,7 +127,7 @@ pub fn command<'a>(alloc: Global, row: &'a CommandRow) -> Result<Vec<ValueRef<'a
 }
 
 /// A row of member. `Size`: its durable key or its opening is above 9,999,999. `Memory`: a growth was refused.
-pub fn member<'a>(alloc: Global, row: &'a MemberRow) -> Result<Vec<ValueRef<'a>>, Cause>
+pub fn encode_member<'a>(alloc: Global, row: &'a MemberRow) -> Result<Vec<ValueRef<'a>>, Cause>
     ensures ok { IfOk result (λ values. bound values.items ≡ encode_member row.now) }
     ensures err { IfErr result (λ cause. cause ≢ Memory → (cause ≡ Size) × (is_member row.now ≡ false)) }
 {
@@ -138,7 +138,7 @@ pub fn member<'a>(alloc: Global, row: &'a MemberRow) -> Result<Vec<ValueRef<'a>>
 }
 
 /// A row of change. `Size`: its command, its place, its durable key or its anchor is above 9,999,999. `Memory`: a growth was refused.
-pub fn change<'a>(alloc: Global, row: &'a ChangeRow) -> Result<Vec<ValueRef<'a>>, Cause>
+pub fn encode_change<'a>(alloc: Global, row: &'a ChangeRow) -> Result<Vec<ValueRef<'a>>, Cause>
     ensures ok { IfOk result (λ values. bound values.items ≡ encode_change row.now) }
     ensures err { IfErr result (λ cause. cause ≢ Memory → (cause ≡ Size) × (is_change row.now ≡ false)) }
 {
@@ -155,12 +155,12 @@ pub fn change<'a>(alloc: Global, row: &'a ChangeRow) -> Result<Vec<ValueRef<'a>>
             durable,
             day(row.day),
             anchor,
-            slot(&row.values, 0),
-            slot(&row.values, 1),
-            slot(&row.values, 2),
-            slot(&row.values, 3),
-            slot(&row.values, 4),
-            slot(&row.values, 5),
+            slot_column(&row.values, 0),
+            slot_column(&row.values, 1),
+            slot_column(&row.values, 2),
+            slot_column(&row.values, 3),
+            slot_column(&row.values, 4),
+            slot_column(&row.values, 5),
         ],
     )?;
     Ok(values)
@@ -168,7 +168,11 @@ pub fn change<'a>(alloc: Global, row: &'a ChangeRow) -> Result<Vec<ValueRef<'a>>
 
 /// A row of product, store or customer. `Size`: one of its keys or the number of its profile is above 9,999,999. `Memory`: a growth was
 /// refused.
-pub fn dimension<'a>(alloc: Global, of: Dim, row: &'a DimRow) -> Result<Vec<ValueRef<'a>>, Cause>
+pub fn encode_dimension<'a>(
+    alloc: Global,
+    of: Dim,
+    row: &'a DimRow,
+) -> Result<Vec<ValueRef<'a>>, Cause>
     ensures ok { IfOk result (λ values. bound values.items ≡ encode_dimension row.now) }
     ensures err { IfErr result (λ cause. cause ≢ Memory → (cause ≡ Size) × (is_dimension of row.now ≡ false)) }
 {
@@ -184,18 +188,18 @@ pub fn dimension<'a>(alloc: Global, of: Dim, row: &'a DimRow) -> Result<Vec<Valu
             day(row.from_day),
             day(row.to_day),
             flag(row.is_current),
-            slot(&row.a, 0),
-            slot(&row.a, 1),
-            slot(&row.a, 2),
-            slot(&row.a, 3),
-            slot(&row.a, 4),
-            slot(&row.a, 5),
-            slot(&row.b, 0),
-            slot(&row.b, 1),
-            slot(&row.b, 2),
-            slot(&row.b, 3),
-            slot(&row.b, 4),
-            slot(&row.b, 5),
+            slot_column(&row.a, 0),
+            slot_column(&row.a, 1),
+            slot_column(&row.a, 2),
+            slot_column(&row.a, 3),
+            slot_column(&row.a, 4),
+            slot_column(&row.a, 5),
+            slot_column(&row.b, 0),
+            slot_column(&row.b, 1),
+            slot_column(&row.b, 2),
+            slot_column(&row.b, 3),
+            slot_column(&row.b, 4),
+            slot_column(&row.b, 5),
             profile_now,
         ],
     )?;
@@ -203,7 +207,7 @@ pub fn dimension<'a>(alloc: Global, of: Dim, row: &'a DimRow) -> Result<Vec<Valu
 }
 
 /// A row of profile. `Size`: its number is above 9,999,999. `Memory`: a growth was refused.
-pub fn profile<'a>(alloc: Global, row: &'a ProfileRow) -> Result<Vec<ValueRef<'a>>, Cause>
+pub fn encode_profile<'a>(alloc: Global, row: &'a ProfileRow) -> Result<Vec<ValueRef<'a>>, Cause>
     ensures ok { IfOk result (λ values. bound values.items ≡ encode_profile row.now) }
     ensures err { IfErr result (λ cause. cause ≢ Memory → (cause ≡ Size) × (is_profile row.now ≡ false)) }
 {
@@ -212,19 +216,19 @@ pub fn profile<'a>(alloc: Global, row: &'a ProfileRow) -> Result<Vec<ValueRef<'a
         alloc,
         [
             key,
-            slot(&row.values, 0),
-            slot(&row.values, 1),
-            slot(&row.values, 2),
-            slot(&row.values, 3),
-            slot(&row.values, 4),
-            slot(&row.values, 5),
+            slot_column(&row.values, 0),
+            slot_column(&row.values, 1),
+            slot_column(&row.values, 2),
+            slot_column(&row.values, 3),
+            slot_column(&row.values, 4),
+            slot_column(&row.values, 5),
         ],
     )?;
     Ok(values)
 }
 
 /// A row of calendar. `Memory`: a growth was refused; nothing else is an error.
-pub fn date<'a>(alloc: Global, row: &'a DateRow) -> Result<Vec<ValueRef<'a>>, Cause>
+pub fn encode_date<'a>(alloc: Global, row: &'a DateRow) -> Result<Vec<ValueRef<'a>>, Cause>
     ensures ok { IfOk result (λ values. bound values.items ≡ encode_date row.now) }
     ensures err { IfErr result (λ cause. cause ≡ Memory) }
 {
@@ -282,7 +286,7 @@ fn common_columns<'a>(alloc: Global, row: &'a Fact) -> Result<Vec<ValueRef<'a>>,
 
 /// A row of fact, whose table has no column for the discount. `Size`: one of its keys or the number of its profile is above 9,999,999.
 /// `Memory`: a growth was refused.
-pub fn fact<'a>(alloc: Global, row: &'a Fact) -> Result<Vec<ValueRef<'a>>, Cause>
+pub fn encode_fact<'a>(alloc: Global, row: &'a Fact) -> Result<Vec<ValueRef<'a>>, Cause>
     ensures ok { IfOk result (λ values. bound values.items ≡ encode_fact row.now) }
     ensures err { IfErr result (λ cause. cause ≢ Memory → (cause ≡ Size) × (is_fact row.now ≡ false)) }
 {
@@ -291,7 +295,7 @@ pub fn fact<'a>(alloc: Global, row: &'a Fact) -> Result<Vec<ValueRef<'a>>, Cause
 
 /// A row of fact2. `Size`: one of its keys or the number of its profile is above 9,999,999, or the discount above 999,999,999 hundredths.
 /// `Memory`: a growth was refused.
-pub fn fact2<'a>(alloc: Global, row: &'a Fact) -> Result<Vec<ValueRef<'a>>, Cause>
+pub fn encode_fact2<'a>(alloc: Global, row: &'a Fact) -> Result<Vec<ValueRef<'a>>, Cause>
     ensures ok { IfOk result (λ values. bound values.items ≡ encode_fact2 row.now) }
     ensures err { IfErr result (λ cause. cause ≢ Memory → (cause ≡ Size) × (is_fact2 row.now ≡ false)) }
 {
@@ -302,7 +306,7 @@ pub fn fact2<'a>(alloc: Global, row: &'a Fact) -> Result<Vec<ValueRef<'a>>, Caus
 }
 
 /// A row of void. `Size`: the number of its command is above 9,999,999. `Memory`: a growth was refused.
-pub fn void<'a>(alloc: Global, row: &'a VoidRow) -> Result<Vec<ValueRef<'a>>, Cause>
+pub fn encode_void<'a>(alloc: Global, row: &'a VoidRow) -> Result<Vec<ValueRef<'a>>, Cause>
     ensures ok { IfOk result (λ values. bound values.items ≡ encode_void row.now) }
     ensures err { IfErr result (λ cause. cause ≢ Memory → (cause ≡ Size) × (is_void row.now ≡ false)) }
 {

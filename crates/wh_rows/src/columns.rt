@@ -33,7 +33,7 @@ fn column<'a>(row: &'a Row, at: usize) -> ValueRef<'a>
 }
 
 #[tactic(auto, unfolding(crate::specs::Columns::integer_of))]
-pub(crate) fn integer(row: &Row, at: usize) -> Result<i64, ParseError<Damaged>>
+pub(crate) fn integer_of(row: &Row, at: usize) -> Result<i64, ParseError<Damaged>>
     ensures { Gives (λ n. n) result (integer_of (column row.now at)) }
 {
     match column(row, at) {
@@ -43,7 +43,7 @@ pub(crate) fn integer(row: &Row, at: usize) -> Result<i64, ParseError<Damaged>>
 }
 
 #[tactic(auto, unfolding(crate::specs::Columns::number_of))]
-pub(crate) fn number(row: &Row, at: usize) -> Result<u64, ParseError<Damaged>>
+pub(crate) fn number_of(row: &Row, at: usize) -> Result<u64, ParseError<Damaged>>
     ensures { Gives (λ n. n) result (number_of (column row.now at)) }
 {
     match column(row, at) {
@@ -53,7 +53,7 @@ pub(crate) fn number(row: &Row, at: usize) -> Result<u64, ParseError<Damaged>>
 }
 
 #[tactic(auto, unfolding(crate::specs::Columns::line_of))]
-pub(crate) fn line(row: &Row, at: usize) -> Result<u32, ParseError<Damaged>>
+pub(crate) fn line_of(row: &Row, at: usize) -> Result<u32, ParseError<Damaged>>
     ensures { Gives (λ n. n) result (line_of (column row.now at)) }
 {
     match column(row, at) {
@@ -63,7 +63,7 @@ pub(crate) fn line(row: &Row, at: usize) -> Result<u32, ParseError<Damaged>>
 }
 
 #[tactic(auto, unfolding(crate::specs::Columns::discount_of))]
-pub(crate) fn discount(row: &Row, at: usize) -> Result<u64, ParseError<Damaged>>
+pub(crate) fn discount_of(row: &Row, at: usize) -> Result<u64, ParseError<Damaged>>
     ensures { Gives (λ n. n) result (discount_of (column row.now at)) }
 {
     match column(row, at) {
@@ -74,7 +74,7 @@ pub(crate) fn discount(row: &Row, at: usize) -> Result<u64, ParseError<Damaged>>
 
 /// A number from `-most` to `most`.
 #[tactic(auto, unfolding(crate::specs::Columns::measure_of))]
-pub(crate) fn measure(most: u64, row: &Row, at: usize) -> Result<i64, ParseError<Damaged>>
+pub(crate) fn measure_of(most: u64, row: &Row, at: usize) -> Result<i64, ParseError<Damaged>>
     ensures { Gives (λ n. n) result (measure_of most (column row.now at)) }
 {
     match column(row, at) {
@@ -84,7 +84,7 @@ pub(crate) fn measure(most: u64, row: &Row, at: usize) -> Result<i64, ParseError
 }
 
 #[tactic(auto, unfolding(crate::specs::Columns::day_of))]
-pub(crate) fn day(row: &Row, at: usize) -> Result<Day, ParseError<Damaged>>
+pub(crate) fn day_of(row: &Row, at: usize) -> Result<Day, ParseError<Damaged>>
     ensures { Gives (λ n. n) result (day_of (column row.now at)) }
 {
     let ValueRef::Int(key) = column(row, at) else {
@@ -97,7 +97,7 @@ pub(crate) fn day(row: &Row, at: usize) -> Result<Day, ParseError<Damaged>>
 }
 
 #[tactic(auto, unfolding(crate::specs::Columns::flag_of))]
-pub(crate) fn flag(row: &Row, at: usize) -> Result<bool, ParseError<Damaged>>
+pub(crate) fn flag_of(row: &Row, at: usize) -> Result<bool, ParseError<Damaged>>
     ensures { Gives (λ n. n) result (flag_of (column row.now at)) }
 {
     match column(row, at) {
@@ -108,7 +108,7 @@ pub(crate) fn flag(row: &Row, at: usize) -> Result<bool, ParseError<Damaged>>
 }
 
 #[tactic(auto, unfolding(crate::specs::Columns::dim_of))]
-pub(crate) fn dim(row: &Row, at: usize) -> Result<Dim, ParseError<Damaged>>
+pub(crate) fn dim_of(row: &Row, at: usize) -> Result<Dim, ParseError<Damaged>>
     ensures { Gives (λ n. n) result (dim_of (column row.now at)) }
 {
     match column(row, at) {
@@ -120,7 +120,7 @@ pub(crate) fn dim(row: &Row, at: usize) -> Result<Dim, ParseError<Damaged>>
 }
 
 #[tactic(auto, unfolding(crate::specs::Columns::blob_of))]
-pub(crate) fn blob(alloc: Global, row: &Row, at: usize) -> Result<Bytes, ParseError<Damaged>>
+pub(crate) fn blob_of(alloc: Global, row: &Row, at: usize) -> Result<Bytes, ParseError<Damaged>>
     ensures { Gives (λ n. n) result (blob_of (column row.now at)) }
 {
     match column(row, at) {
@@ -153,7 +153,7 @@ fn as_text(bytes: &[u8]) -> Option<&str>
 
 /// Any text.
 #[tactic(auto, unfolding(crate::specs::Columns::text_of))]
-pub(crate) fn text(alloc: Global, row: &Row, at: usize) -> Result<Value, ParseError<Damaged>>
+pub(crate) fn text_of(alloc: Global, row: &Row, at: usize) -> Result<Value, ParseError<Damaged>>
     ensures { Gives (λ text. text) result (text_of (column row.now at)) }
 {
     let text = words(row, at)?;
@@ -240,7 +240,7 @@ fn is_special(text: &str) -> bool
 }
 
 #[tactic(auto, unfolding(crate::specs::Columns::slot_of))]
-fn slot(alloc: Global, row: &Row, at: usize) -> Result<Value, ParseError<Damaged>>
+fn slot_of(alloc: Global, row: &Row, at: usize) -> Result<Value, ParseError<Damaged>>
     ensures { Gives (λ text. text) result (slot_of (column row.now at)) }
 {
     let text = words(row, at)?;
@@ -255,16 +255,16 @@ fn slot(alloc: Global, row: &Row, at: usize) -> Result<Value, ParseError<Damaged
 
 /// The texts of the six slots from a column on.
 #[tactic(auto, unfolding(crate::specs::Columns::slots_of))]
-pub(crate) fn slots(alloc: Global, row: &Row, from: usize) -> Result<Values, ParseError<Damaged>>
+pub(crate) fn slots_of(alloc: Global, row: &Row, from: usize) -> Result<Values, ParseError<Damaged>>
     requires { from < 100 }
     ensures { Gives (λ texts. texts) result (slots_of row.now from) }
 {
     let mut texts = Values::new(alloc);
-    texts.push(slot(alloc, row, from)?)?;
-    texts.push(slot(alloc, row, from + 1)?)?;
-    texts.push(slot(alloc, row, from + 2)?)?;
-    texts.push(slot(alloc, row, from + 3)?)?;
-    texts.push(slot(alloc, row, from + 4)?)?;
-    texts.push(slot(alloc, row, from + 5)?)?;
+    texts.push(slot_of(alloc, row, from)?)?;
+    texts.push(slot_of(alloc, row, from + 1)?)?;
+    texts.push(slot_of(alloc, row, from + 2)?)?;
+    texts.push(slot_of(alloc, row, from + 3)?)?;
+    texts.push(slot_of(alloc, row, from + 4)?)?;
+    texts.push(slot_of(alloc, row, from + 5)?)?;
     Ok(texts)
 }

@@ -5,7 +5,7 @@ ghost use Rattle.sqlite_value.specs.Order.{column};
 ghost use Rattle.wh_day.specs.Reading.{Gives};
 ghost use Rattle.wh_day.specs.declared.error.ParseError.TheVariants.{Memory};
 ghost use Rattle.wh_history.specs.declared.facts.Fact.{Fact};
-ghost use Rattle.wh_rows.specs.KeyedSales.{columns_of, keyed, key_in, keyed_of};
+ghost use Rattle.wh_rows.specs.KeyedSales.{read_keyed_sale, keyed, key_in, keyed_of};
 ghost use Rattle.wh_rows.specs.Rows.{has_good_columns};
 
 use crate::columns::{self, Damaged};
@@ -46,10 +46,10 @@ pub struct KeyedSale {
 
 /// A key of another table's row: a number, or a day.
 #[tactic(auto, unfolding(crate::specs::KeyedSales::key_in, crate::specs::Columns::integer_of))]
-fn key(row: &Row, at: usize) -> Result<u64, ParseError<Damaged>>
+fn key_in(row: &Row, at: usize) -> Result<u64, ParseError<Damaged>>
     ensures { Gives (λ key. key) result (key_in (column row.now at)) }
 {
-    let key = columns::integer(row, at)?;
+    let key = columns::integer_of(row, at)?;
     if key < 0 {
         return Err(ParseError::Fault(Damaged));
     }
@@ -58,17 +58,17 @@ fn key(row: &Row, at: usize) -> Result<u64, ParseError<Damaged>>
 
 /// The five columns.
 #[tactic(auto, unfolding(crate::specs::KeyedSales::keyed_of))]
-fn read_columns(row: &Row) -> Result<KeyedSale, ParseError<Damaged>>
+fn keyed_of(row: &Row) -> Result<KeyedSale, ParseError<Damaged>>
     ensures { Gives (λ sale. sale) result (keyed_of row.now) }
 {
     if row.column_count() != 5 {
         return Err(ParseError::Fault(Damaged));
     }
-    let day = columns::day(row, 0)?;
-    let key = key(row, 1)?;
-    let quantity = columns::measure(9_999, row, 2)?;
-    let amount = columns::measure(999_999_999, row, 3)?;
-    let cost = columns::measure(999_999_999, row, 4)?;
+    let day = columns::day_of(row, 0)?;
+    let key = key_in(row, 1)?;
+    let quantity = columns::measure_of(9_999, row, 2)?;
+    let amount = columns::measure_of(999_999_999, row, 3)?;
+    let cost = columns::measure_of(999_999_999, row, 4)?;
     Ok(KeyedSale {
         day,
         key,
@@ -81,10 +81,10 @@ fn read_columns(row: &Row) -> Result<KeyedSale, ParseError<Damaged>>
 impl KeyedSale {
     /// Reads a row of these five columns. `Damaged`: it has others, or a value is out of its type.
     pub fn read(row: &Row) -> Result<KeyedSale, ParseError<Damaged>>
-        ensures ok { IfOk result (λ sale. row.now ≡ columns_of sale) }
+        ensures ok { IfOk result (λ sale. row.now ≡ read_keyed_sale sale) }
         // Refused are the columns that no fact shows by any of its keys.
-        ensures err { IfErr result (λ e. e ≢ Memory → (which : _) (fact : Fact) → IsTrue (has_good_columns fact) → row.now ≢ columns_of (keyed which fact)) }
+        ensures err { IfErr result (λ e. e ≢ Memory → (which : _) (fact : Fact) → IsTrue (has_good_columns fact) → row.now ≢ read_keyed_sale (keyed which fact)) }
     {
-        read_columns(row)
+        keyed_of(row)
     }
 }

@@ -1,8 +1,8 @@
 //! The tables of the warehouse.
 
 ghost use Rattle.std.specs.Prelude.{◌≡◌, Some, IfSome, map};
-ghost use Rattle.wh_rows.specs.ColumnNames.{column_names};
-ghost use Rattle.wh_rows.specs.Names.{table_name, table_named};
+ghost use Rattle.wh_rows.specs.ColumnNames.{table_columns};
+ghost use Rattle.wh_rows.specs.Names.{table_name, table_of_name};
 
 const CHANGE: [&str; 12] = [
     "command", "record", "dim", "durable", "day", "anchor", "v1", "v2", "v3", "v4", "v5", "v6",
@@ -149,7 +149,7 @@ impl Table {
 
     /// The names of its columns, in their order.
     pub fn columns(self) -> &'static [&'static str]
-        ensures { map (λ name. name.now) result.now ≡ column_names self }
+        ensures { map (λ name. name.now) result.now ≡ table_columns self }
     {
         match self {
             Table::Meta => &["name", "value"],
@@ -172,12 +172,12 @@ impl Table {
         // The table that has the name is found.
         ensures only { (table : Table) → table_name table ≡ name.now → result ≡ Some table }
     {
-        find(name)
+        table_of_name(name)
     }
 }
 
-fn find(name: &str) -> Option<Table>
-    ensures { result ≡ table_named name.now }
+fn table_of_name(name: &str) -> Option<Table>
+    ensures { result ≡ table_of_name name.now }
 {
     match name {
         "meta" => Some(Table::Meta),

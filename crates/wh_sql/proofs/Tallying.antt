@@ -26,7 +26,7 @@ use Rattle.wh_rows.specs.Schema.{schema_in}
 use Rattle.wh_rows.specs.Tables.{Tables, Stores}
 use Rattle.wh_rows.specs.Raw.{Stored, IsStored, HasDamage, HasDamageIn, stored_of}
 use Rattle.wh_rows.specs.Rows as row
-use Rattle.wh_rows.specs.KeyedSales.{columns_of, keyed, keyed_sales, keyed_sales2, shown_of}
+use Rattle.wh_rows.specs.KeyedSales.{read_keyed_sale, keyed, keyed_sales, keyed_sales2, shown_of}
 use Rattle.wh_rows.specs.declared.keyed_sale.FactColumn.{FactColumn}
 use Rattle.wh_rows.specs.declared.keyed_sale.KeyedSale.{KeyedSale}
 use Rattle.wh_rows.proofs.KeyedSales.{shows_sales, shows_stored_sales, shows_damage, shows_typed_sales, no_fact_damaged, shows_sales2, shows_sales2_in, shows_stored_sales2, shows_damage2, shows_typed_sales2, no_fact2_damaged}
@@ -46,13 +46,13 @@ use Rattle.wh_sql.proofs.Reading.{reads_unchanged}
 -- since the first of the connections nothing was changed, the rows of these sales were given, and a tally came by them from one to the other
 pub record IsTallying {C S : Type 0} (Counts : C → List KeyedSale → C → Type 0) (g : Ghosts S) (text : List ℕ) (start now : Held S) (first last : C) : Type 0 where
   pub sales : List KeyedSale
-  pub giving : IsGiving g text [] start now (map columns_of sales)
+  pub giving : IsGiving g text [] start now (map read_keyed_sale sales)
   pub counts : Counts first sales last
 
 -- ---- lists
 
 -- no two sales are shown alike
-once_shown : (s t : KeyedSale) → columns_of s ≡ columns_of t → s ≡ t
+once_shown : (s t : KeyedSale) → read_keyed_sale s ≡ read_keyed_sale t → s ≡ t
 once_shown s t same =
     let day : s.day ≡ t.day = cc in
     let key : s.key ≡ t.key = cc in
@@ -61,13 +61,13 @@ once_shown s t same =
     let cost : s.cost ≡ t.cost = cc in
     λ i. record { day = day i; key = key i; quantity = quantity i; amount = amount i; cost = cost i }
 
-all_once_shown : (ss ts : List KeyedSale) → map columns_of ss ≡ map columns_of ts → ss ≡ ts
+all_once_shown : (ss ts : List KeyedSale) → map read_keyed_sale ss ≡ map read_keyed_sale ts → ss ≡ ts
 all_once_shown [] [] same = refl
 all_once_shown [] (t ∷ ts) same = absurd (cc)
 all_once_shown (s ∷ ss) [] same = absurd (cc)
 all_once_shown (s ∷ ss) (t ∷ ts) same =
-    let head : columns_of s ≡ columns_of t = cc in
-    let tail : map columns_of ss ≡ map columns_of ts = cc in
+    let head : read_keyed_sale s ≡ read_keyed_sale t = cc in
+    let tail : map read_keyed_sale ss ≡ map read_keyed_sale ts = cc in
     λ i. once_shown s t head i ∷ all_once_shown ss ts tail i
 
 -- ---- what is known of the texts, by format
@@ -92,11 +92,11 @@ module _ (which : FactColumn) (old new : State) (answer : List Row) where
   stored_shown One shown = shows_stored_sales which old new answer shown
   stored_shown Two shown = shows_stored_sales2 which old new answer shown
 
-  typed_shown : (of : Format) → Shown (facts_by of which) [] old new answer → (t : Tables) → Stores old.now t → (ordered : List Fact) × IsPermutation ordered (values (facts_in of t)) × (answer ≡ map columns_of (map (keyed which) ordered))
+  typed_shown : (of : Format) → Shown (facts_by of which) [] old new answer → (t : Tables) → Stores old.now t → (ordered : List Fact) × IsPermutation ordered (values (facts_in of t)) × (answer ≡ map read_keyed_sale (map (keyed which) ordered))
   typed_shown One shown = shows_typed_sales which old new answer shown
   typed_shown Two shown = shows_typed_sales2 which old new answer shown
 
-  damage_shown : (of : Format) → Shown (facts_by of which) [] old new answer → (shows : Row) → Among answer shows → ((f : Fact) → IsTrue (row.has_good_columns f) → shows ≢ columns_of (keyed which f)) → (stored : Stored) → IsStored stored old.now
+  damage_shown : (of : Format) → Shown (facts_by of which) [] old new answer → (shows : Row) → Among answer shows → ((f : Fact) → IsTrue (row.has_good_columns f) → shows ≢ read_keyed_sale (keyed which f)) → (stored : Stored) → IsStored stored old.now
       → HasDamage (fact_layout of) (stored.rows (facts_table of))
   damage_shown One shown = shows_damage which old new answer shown
   damage_shown Two shown = shows_damage2 which old new answer shown
@@ -129,22 +129,22 @@ module _ {S : Type 0} (g : Ghosts S) (of : Format) (which : FactColumn) (start :
 
   -- it is read, and its sale counted
   pub tally_goes_on : {C : Type 0} {Counts : C → List KeyedSale → C → Type 0} (mid : Held S) {first last : C} (it : IsTallying Counts g (facts_by of which) start mid first last) (now : Held S) (r : Row)
-      → IsGiving g (facts_by of which) [] start now (map columns_of it.sales ++ r ∷ []) → (sale : KeyedSale) → r ≡ columns_of sale → (next : C) → CountsOne Counts last next sale → IsTallying Counts g (facts_by of which) start now first next
+      → IsGiving g (facts_by of which) [] start now (map read_keyed_sale it.sales ++ r ∷ []) → (sale : KeyedSale) → r ≡ read_keyed_sale sale → (next : C) → CountsOne Counts last next sale → IsTallying Counts g (facts_by of which) start now first next
   tally_goes_on mid {first = first} it now r giving sale is next counts = record {
     sales = it.sales ++ sale ∷ [];
-    giving = subst (IsGiving g (facts_by of which) [] start now) (ap (λ r. map columns_of it.sales ++ r ∷ []) is ∙ sym (map-append columns_of it.sales (sale ∷ []))) giving;
+    giving = subst (IsGiving g (facts_by of which) [] start now) (ap (λ r. map read_keyed_sale it.sales ++ r ∷ []) is ∙ sym (map-append read_keyed_sale it.sales (sale ∷ []))) giving;
     counts = counts first it.sales it.counts;
   }
 
   -- or it shows no fact, and then one that is stored is damaged
-  module _ (now : Held S) (sales : List KeyedSale) (r : Row) (giving : IsGiving g (facts_by of which) [] start now (map columns_of sales ++ r ∷ [])) where
+  module _ (now : Held S) (sales : List KeyedSale) (r : Row) (giving : IsGiving g (facts_by of which) [] start now (map read_keyed_sale sales ++ r ∷ [])) where
     finds_no_fact : ShowsNoFact r → HasCleanDisk (state g now) → (stored : Stored) → IsStored stored (state g start).now → HasDamage (fact_layout of) (stored.rows (facts_table of))
     finds_no_fact none clean stored is =
         let unchanged = giving.same clean in
         let here : IsStored stored (state g now).now = subst (IsStored stored) (sym unchanged.0.now_is) is in
-        let rows = map columns_of sales ++ r ∷ [] in
+        let rows = map read_keyed_sale sales ++ r ∷ [] in
         let answer = given_shown g of which now stored.format here.schema rows (giving.given clean) unchanged.0.is_open in
-        damage_shown which (state g now) (state g now) (rows ++ answer.0) of answer.1 r (has_left rows answer.0 r (has_right (map columns_of sales) (r ∷ []) r (inl refl))) (none which) stored here
+        damage_shown which (state g now) (state g now) (rows ++ answer.0) of answer.1 r (has_left rows answer.0 r (has_right (map read_keyed_sale sales) (r ∷ []) r (inl refl))) (none which) stored here
 
     pub tally_damage : {A : Type 0} (result : Result A ReadFault) (fault : ReadFault) → result ≡ Err fault → (fault ≡ Memory) ⊎ ((fault ≡ Damaged (facts_table of)) × ShowsNoFact r)
         → HasCleanDisk (state g now) → (stored : Stored) → IsStored stored (state g start).now → IfErr result (IsOfDamage (fact_layout of) (facts_table of) (stored.rows (facts_table of)))
@@ -154,14 +154,14 @@ module _ {S : Type 0} (g : Ghosts S) (of : Format) (which : FactColumn) (start :
   -- ---- no row is left
 
   module _ {C : Type 0} {Counts : C → List KeyedSale → C → Type 0} (mid : Held S) {first last : C} (it : IsTallying Counts g (facts_by of which) start mid first last) (now : Held S)
-      (shown : HasCleanDisk (state g now) → Shown (facts_by of which) [] (state g start) (state g now) (map columns_of it.sales)) where
+      (shown : HasCleanDisk (state g now) → Shown (facts_by of which) [] (state g start) (state g now) (map read_keyed_sale it.sales)) where
     pub tally_of_stored : HasCleanDisk (state g now) → (stored : Stored) → IsStored stored (state g start).now → HasCountedStored Counts which first last (stored.rows (facts_table of))
     tally_of_stored clean stored is =
-        (it.sales, IsPermutation-sym _ _ (stored_shown which (state g start) (state g now) (map columns_of it.sales) of (shown clean) stored is), it.counts)
+        (it.sales, IsPermutation-sym _ _ (stored_shown which (state g start) (state g now) (map read_keyed_sale it.sales) of (shown clean) stored is), it.counts)
 
     pub tally_of_tables : HasCleanDisk (state g now) → (t : Tables) → Stores (state g start).now t → HasCounted Counts which first last (values (facts_in of t))
     tally_of_tables clean t is =
-        let found = typed_shown which (state g start) (state g now) (map columns_of it.sales) of (shown clean) t is in
+        let found = typed_shown which (state g start) (state g now) (map read_keyed_sale it.sales) of (shown clean) t is in
         (found.0, found.1, subst (λ sales. Counts first sales last) (all_once_shown it.sales (map (keyed which) found.0) found.2) it.counts)
 
 -- ---- what the call says

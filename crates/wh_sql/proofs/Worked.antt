@@ -6,37 +6,37 @@ use Rattle.wh_rows.specs.Schema as schema
 use Rattle.wh_policy.specs.declared.format.Format.{Format}
 use Rattle.wh_policy.specs.declared.format.Format.TheVariants.{One, Two}
 use Rattle.wh_rows.specs.Schema.{no_schema, warehouse, schema_in}
-use Rattle.wh_sql.specs.Present.{is_any_taken, is_second_taken, are_all_there, is_second_there}
+use Rattle.wh_sql.specs.Present.{is_any_taken, is_second_taken, has_tables, has_second}
 
 -- ---- whether the ten tables are there
 
-pub all_of_a_warehouse : (format : Format) → are_all_there (schema_in format) ≡ true
-unfolding are_all_there same_name
+pub all_of_a_warehouse : (format : Format) → has_tables (schema_in format) ≡ true
+unfolding has_tables same_name
 all_of_a_warehouse One = refl
 all_of_a_warehouse Two = refl
 
-pub all_of_none : are_all_there no_schema ≡ false
-unfolding are_all_there same_name
+pub all_of_none : has_tables no_schema ≡ false
+unfolding has_tables same_name
 all_of_none = refl
 
 -- nine tables
-all_but_one : are_all_there (record warehouse { tables = schema.command ∷ schema.member ∷ schema.change ∷ schema.product ∷ schema.store ∷ schema.customer ∷ schema.profile ∷ schema.calendar ∷ schema.fact ∷ [] }) ≡ false
-unfolding are_all_there same_name
+all_but_one : has_tables (record warehouse { tables = schema.command ∷ schema.member ∷ schema.change ∷ schema.product ∷ schema.store ∷ schema.customer ∷ schema.profile ∷ schema.calendar ∷ schema.fact ∷ [] }) ≡ false
+unfolding has_tables same_name
 all_but_one = refl
 
 -- ten tables in another order, of which one has a name in upper case
-in_another_order : are_all_there (record warehouse { tables = schema.fact ∷ schema.command ∷ schema.member ∷ schema.change ∷ schema.product ∷ schema.store ∷ schema.customer ∷ schema.profile ∷ schema.calendar ∷ record schema.meta { name = codes "META" } ∷ [] }) ≡ true
-unfolding are_all_there same_name
+in_another_order : has_tables (record warehouse { tables = schema.fact ∷ schema.command ∷ schema.member ∷ schema.change ∷ schema.product ∷ schema.store ∷ schema.customer ∷ schema.profile ∷ schema.calendar ∷ record schema.meta { name = codes "META" } ∷ [] }) ≡ true
+unfolding has_tables same_name
 in_another_order = refl
 
 -- one of the ten has a column too few
-a_column_too_few : are_all_there (record warehouse { tables = record schema.meta { columns = schema.text (codes "name") ∷ [] } ∷ schema.command ∷ schema.member ∷ schema.change ∷ schema.product ∷ schema.store ∷ schema.customer ∷ schema.profile ∷ schema.calendar ∷ schema.fact ∷ [] }) ≡ false
-unfolding are_all_there same_name
+a_column_too_few : has_tables (record warehouse { tables = record schema.meta { columns = schema.text (codes "name") ∷ [] } ∷ schema.command ∷ schema.member ∷ schema.change ∷ schema.product ∷ schema.store ∷ schema.customer ∷ schema.profile ∷ schema.calendar ∷ schema.fact ∷ [] }) ≡ false
+unfolding has_tables same_name
 a_column_too_few = refl
 
 -- the tables that the second format adds are there in that format alone
-pub second_of_a_warehouse : (format : Format) → is_second_there (schema_in format) ≡ is_two format
-unfolding is_second_there same_name
+pub second_of_a_warehouse : (format : Format) → has_second (schema_in format) ≡ is_two format
+unfolding has_second same_name
 second_of_a_warehouse One = refl
 second_of_a_warehouse Two = refl
 

@@ -42,9 +42,9 @@ abbrev pub has_table : {A : Type 0} → List ℕ → List A → (A → List ℕ)
 has_table name columns name_of schema = list_any (λ t. same_name t.name name && has_columns columns name_of t) schema.tables
 
 -- the schema has each of the ten tables, with its columns
-unfoldable pub are_all_there : Schema → Bool
-are_all_there schema = list_all (λ t. has_table t.name t.columns (λ c. c.name) schema) warehouse.tables
+unfoldable pub has_tables : Schema → Bool
+has_tables schema = list_all (λ t. has_table t.name t.columns (λ c. c.name) schema) warehouse.tables
 
 -- it has each of the tables that the second format adds, with its columns
-unfoldable pub is_second_there : Schema → Bool
-is_second_there schema = list_all (λ t. has_table t.name t.columns (λ c. c.name) schema) (tables_added Two)
+unfoldable pub has_second : Schema → Bool
+has_second schema = list_all (λ t. has_table t.name t.columns (λ c. c.name) schema) (tables_added Two)

@@ -4,7 +4,7 @@ use Rattle.std.specs.List.Sorted.{IsPermutation}
 use Rattle.sqlite.specs.Order.{Row}
 use Rattle.wh_history.specs.declared.facts.Fact.{Fact}
 use Rattle.wh_rows.specs.Rows.{has_good_columns}
-use Rattle.wh_rows.specs.KeyedSales.{keyed, columns_of, shown_of}
+use Rattle.wh_rows.specs.KeyedSales.{keyed, read_keyed_sale, shown_of}
 use Rattle.wh_rows.specs.declared.keyed_sale.FactColumn.{FactColumn}
 use Rattle.wh_rows.specs.declared.keyed_sale.KeyedSale.{KeyedSale}
 
@@ -14,7 +14,7 @@ HasCounted Counts which old new facts = (ordered : List Fact) × IsPermutation o
 
 -- the same of stored rows
 abbrev pub HasCountedStored : {C : Type 0} → (C → List KeyedSale → C → Type 0) → FactColumn → C → C → List Row → Type 0
-HasCountedStored Counts which old new stored = (sales : List KeyedSale) × IsPermutation (map columns_of sales) (map (shown_of which) stored) × Counts old sales new
+HasCountedStored Counts which old new stored = (sales : List KeyedSale) × IsPermutation (map read_keyed_sale sales) (map (shown_of which) stored) × Counts old sales new
 
 -- one more sale was counted
 abbrev pub CountsOne : {C : Type 0} → (C → List KeyedSale → C → Type 0) → C → C → KeyedSale → Type 0
@@ -22,4 +22,4 @@ CountsOne {C} Counts old new sale = (first : C) (sales : List KeyedSale) → Cou
 
 -- no fact is shown so, by any of its keys
 abbrev pub ShowsNoFact : Row → Type 0
-ShowsNoFact row = (which : FactColumn) (fact : Fact) → IsTrue (has_good_columns fact) → row ≢ columns_of (keyed which fact)
+ShowsNoFact row = (which : FactColumn) (fact : Fact) → IsTrue (has_good_columns fact) → row ≢ read_keyed_sale (keyed which fact)

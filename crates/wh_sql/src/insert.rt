@@ -44,7 +44,7 @@ fn append<'a>(values: &mut Vec<ValueRef<'a>>, row: Vec<ValueRef<'a>>) -> Result<
 }
 
 /// Rows as the parameters of a statement, one after the other.
-fn bound_rows<'a, T: KeyedTable>(
+fn bind_rows<'a, T: KeyedTable>(
     alloc: Global,
     rows: &[&'a T::Row],
 ) -> Result<Vec<ValueRef<'a>>, Cause>
@@ -122,6 +122,6 @@ pub fn insert_new<T: BatchedTable, S: Alter>(
         conn,
         T::insert_text(),
         rows.len(),
-        bound_rows::<T>(alloc, rows),
+        bind_rows::<T>(alloc, rows),
     )
 }

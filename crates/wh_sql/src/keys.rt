@@ -115,7 +115,7 @@ pub(crate) fn line_key<'a>(alloc: Global, key: &'a LineKey) -> Result<Vec<ValueR
 }
 
 /// The key of fact, and keys for that fact.
-pub(crate) fn line_and_keys<'a>(
+pub(crate) fn bind_rekey<'a>(
     alloc: Global,
     line: &'a LineKey,
     keys: &FactKeys,

@@ -33,6 +33,6 @@ pub use question::{Question, ask};
 pub use questions::{CommandOf, LastPolicy, MemberOf, ProfileOf, RecordsOf, RowsOf, SalesBetween};
 pub use read::{all, count, get};
 pub use scanned::{PagedTable, PartStatements};
-pub use schema::{add_second, create, has_second, has_second_name, has_tables, has_taken_name};
+pub use schema::{add_second, create, has_second, has_tables, is_any_taken, is_second_taken};
 pub use tally::{FactAggregate, tally_facts};
 pub use write::{clear_facts, put, rekey, remove};

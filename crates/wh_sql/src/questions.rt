@@ -287,7 +287,7 @@ impl<'q> Question<tables::Profile> for ProfileOf<'q> {
     }
 
     fn values<'a>(&'a self, alloc: Global) -> Result<Vec<ValueRef<'a>>, Cause> {
-        bound::slots(alloc, self.values)
+        bound::slot_columns(alloc, self.values)
     }
 
     ghost stands = { λ q. has_values q.values.now };

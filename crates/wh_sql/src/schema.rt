@@ -9,13 +9,13 @@ ghost use Rattle.wh_policy.specs.declared.format.Format.TheVariants.{One, Two};
 ghost use Rattle.sqlite.specs.Change.{is_used, next_tree};
 ghost use Rattle.sqlite.specs.State.{HasCleanDisk};
 ghost use Rattle.wh_rows.specs.declared.cause.Cause.TheVariants.{Disk};
-ghost use Rattle.wh_rows.specs.ColumnNames.{column_names};
+ghost use Rattle.wh_rows.specs.ColumnNames.{table_columns};
 ghost use Rattle.wh_rows.specs.Names.{table_name};
 ghost use Rattle.wh_rows.specs.Making.{Extends, LeadsOver, making_texts, upgrading_texts};
 ghost use Rattle.wh_rows.specs.Tables.{Tables, no_tables};
 ghost use Rattle.wh_rows.specs.AtRest.{IsWriting, Leaves, IsCauseOf};
 ghost use Rattle.wh_sql.specs.Refused.{IsOneRefused, bare};
-ghost use Rattle.wh_sql.specs.Present.{IsMaking, is_any_taken, is_second_taken, has_columns, has_table, are_all_there, is_second_there};
+ghost use Rattle.wh_sql.specs.Present.{IsMaking, is_any_taken, is_second_taken, has_columns, has_table, has_tables, has_second};
 
 use sqlite::{Alter, Connection};
 use sqlite_schema::schema::{self, Schema};
@@ -129,7 +129,7 @@ fn is_one_taken(schema: &Schema, tables: &[Table]) -> bool
 }
 
 /// Whether a table, an index or a view has the name of one of the twelve tables.
-pub fn has_taken_name<S: Alter>(conn: &Connection<S>) -> bool
+pub fn is_any_taken<S: Alter>(conn: &Connection<S>) -> bool
     ensures { result ≡ is_any_taken (state S.Store conn.now).now.schema }
 {
     is_one_taken(conn.schema(), &Table::ALL[..FIRST])
@@ -137,7 +137,7 @@ pub fn has_taken_name<S: Alter>(conn: &Connection<S>) -> bool
 }
 
 /// Whether one has the name of one of the two that the second format adds.
-pub fn has_second_name<S: Alter>(conn: &Connection<S>) -> bool
+pub fn is_second_taken<S: Alter>(conn: &Connection<S>) -> bool
     ensures { result ≡ is_second_taken (state S.Store conn.now).now.schema }
 {
     is_one_taken(conn.schema(), &Table::ALL[FIRST..])
@@ -159,27 +159,27 @@ fn has_named(schema: &Schema, name: &str, columns: &[&str]) -> bool
 }
 
 fn has_table(schema: &Schema, table: Table) -> bool
-    ensures { result ≡ has_table (table_name table) (column_names table) (λ name. name) schema.now }
+    ensures { result ≡ has_table (table_name table) (table_columns table) (λ name. name) schema.now }
 {
     has_named(schema, table.name(), table.columns())
 }
 
 fn has_each(schema: &Schema, tables: &[Table]) -> bool
-    ensures { result ≡ list_all (λ table. has_table (table_name table) (column_names table) (λ name. name) schema.now) tables.now }
+    ensures { result ≡ list_all (λ table. has_table (table_name table) (table_columns table) (λ name. name) schema.now) tables.now }
 {
     tables.iter().all(|table| has_table(schema, *table))
 }
 
 /// Whether each of the ten tables that both formats have is there, with its columns.
 pub fn has_tables<S: Alter>(conn: &Connection<S>) -> bool
-    ensures { result ≡ are_all_there (state S.Store conn.now).now.schema }
+    ensures { result ≡ has_tables (state S.Store conn.now).now.schema }
 {
     has_each(conn.schema(), &Table::ALL[..FIRST])
 }
 
 /// Whether each of the two tables that the second format adds is there, with its columns.
 pub fn has_second<S: Alter>(conn: &Connection<S>) -> bool
-    ensures { result ≡ is_second_there (state S.Store conn.now).now.schema }
+    ensures { result ≡ has_second (state S.Store conn.now).now.schema }
 {
     has_each(conn.schema(), &Table::ALL[FIRST..])
 }

@@ -47,7 +47,7 @@ impl KeyedTable for tables::Meta {
     }
 
     fn row<'a>(alloc: Global, row: &'a MetaRow) -> Result<Vec<ValueRef<'a>>, Cause> {
-        bound::meta(alloc, row)
+        bound::encode_meta(alloc, row)
     }
 
     fn key<'a>(alloc: Global, key: &'a Value) -> Result<Vec<ValueRef<'a>>, Cause> {
@@ -110,7 +110,7 @@ impl KeyedTable for tables::Command {
     }
 
     fn row<'a>(alloc: Global, row: &'a CommandRow) -> Result<Vec<ValueRef<'a>>, Cause> {
-        bound::command(alloc, row)
+        bound::encode_command(alloc, row)
     }
 
     fn key<'a>(alloc: Global, key: &'a u64) -> Result<Vec<ValueRef<'a>>, Cause> {
@@ -173,7 +173,7 @@ impl KeyedTable for tables::Member {
     }
 
     fn row<'a>(alloc: Global, row: &'a MemberRow) -> Result<Vec<ValueRef<'a>>, Cause> {
-        bound::member(alloc, row)
+        bound::encode_member(alloc, row)
     }
 
     fn key<'a>(alloc: Global, key: &'a MemberKey) -> Result<Vec<ValueRef<'a>>, Cause> {
@@ -236,7 +236,7 @@ impl KeyedTable for tables::Change {
     }
 
     fn row<'a>(alloc: Global, row: &'a ChangeRow) -> Result<Vec<ValueRef<'a>>, Cause> {
-        bound::change(alloc, row)
+        bound::encode_change(alloc, row)
     }
 
     fn key<'a>(alloc: Global, key: &'a ChangeKey) -> Result<Vec<ValueRef<'a>>, Cause> {
@@ -299,7 +299,7 @@ impl KeyedTable for tables::Product {
     }
 
     fn row<'a>(alloc: Global, row: &'a DimRow) -> Result<Vec<ValueRef<'a>>, Cause> {
-        bound::dimension(alloc, Dim::Product, row)
+        bound::encode_dimension(alloc, Dim::Product, row)
     }
 
     fn key<'a>(alloc: Global, key: &'a u64) -> Result<Vec<ValueRef<'a>>, Cause> {
@@ -362,7 +362,7 @@ impl KeyedTable for tables::Store {
     }
 
     fn row<'a>(alloc: Global, row: &'a DimRow) -> Result<Vec<ValueRef<'a>>, Cause> {
-        bound::dimension(alloc, Dim::Store, row)
+        bound::encode_dimension(alloc, Dim::Store, row)
     }
 
     fn key<'a>(alloc: Global, key: &'a u64) -> Result<Vec<ValueRef<'a>>, Cause> {
@@ -425,7 +425,7 @@ impl KeyedTable for tables::Customer {
     }
 
     fn row<'a>(alloc: Global, row: &'a DimRow) -> Result<Vec<ValueRef<'a>>, Cause> {
-        bound::dimension(alloc, Dim::Customer, row)
+        bound::encode_dimension(alloc, Dim::Customer, row)
     }
 
     fn key<'a>(alloc: Global, key: &'a u64) -> Result<Vec<ValueRef<'a>>, Cause> {
@@ -488,7 +488,7 @@ impl KeyedTable for tables::Profile {
     }
 
     fn row<'a>(alloc: Global, row: &'a ProfileRow) -> Result<Vec<ValueRef<'a>>, Cause> {
-        bound::profile(alloc, row)
+        bound::encode_profile(alloc, row)
     }
 
     fn key<'a>(alloc: Global, key: &'a u64) -> Result<Vec<ValueRef<'a>>, Cause> {
@@ -551,7 +551,7 @@ impl KeyedTable for tables::Calendar {
     }
 
     fn row<'a>(alloc: Global, row: &'a DateRow) -> Result<Vec<ValueRef<'a>>, Cause> {
-        bound::date(alloc, row)
+        bound::encode_date(alloc, row)
     }
 
     fn key<'a>(alloc: Global, key: &'a Day) -> Result<Vec<ValueRef<'a>>, Cause> {
@@ -614,7 +614,7 @@ impl KeyedTable for tables::Fact {
     }
 
     fn row<'a>(alloc: Global, row: &'a Fact) -> Result<Vec<ValueRef<'a>>, Cause> {
-        bound::fact(alloc, row)
+        bound::encode_fact(alloc, row)
     }
 
     fn key<'a>(alloc: Global, key: &'a LineKey) -> Result<Vec<ValueRef<'a>>, Cause> {
@@ -677,7 +677,7 @@ impl KeyedTable for tables::Fact2 {
     }
 
     fn row<'a>(alloc: Global, row: &'a Fact) -> Result<Vec<ValueRef<'a>>, Cause> {
-        bound::fact2(alloc, row)
+        bound::encode_fact2(alloc, row)
     }
 
     fn key<'a>(alloc: Global, key: &'a LineKey) -> Result<Vec<ValueRef<'a>>, Cause> {
@@ -740,7 +740,7 @@ impl KeyedTable for tables::Void {
     }
 
     fn row<'a>(alloc: Global, row: &'a VoidRow) -> Result<Vec<ValueRef<'a>>, Cause> {
-        bound::void(alloc, row)
+        bound::encode_void(alloc, row)
     }
 
     fn key<'a>(alloc: Global, key: &'a LineKey) -> Result<Vec<ValueRef<'a>>, Cause> {

@@ -4,7 +4,7 @@ ghost use Rattle.std.specs.Prelude.{◌≡◌, ◌⊎◌, ◌++◌, ◌∷◌, [
 ghost use Rattle.std.specs.FinMap.{values};
 ghost use Rattle.sqlite.specs.Held.{state};
 ghost use Rattle.sqlite.specs.State.{HasCleanDisk};
-ghost use Rattle.wh_rows.specs.KeyedSales.{keyed_sales, keyed_sales2, columns_of};
+ghost use Rattle.wh_rows.specs.KeyedSales.{keyed_sales, keyed_sales2, read_keyed_sale};
 ghost use Rattle.wh_rows.specs.declared.cause.Cause.{Cause};
 ghost use Rattle.wh_rows.specs.declared.keyed_sale.KeyedSale.{KeyedSale};
 ghost use Rattle.wh_sql.specs.Reads.{ReadsOnly, SaysOfTables, SaysOfStored, IsUndamaged, IsOfDamage};
@@ -31,7 +31,7 @@ pub trait FactAggregate {
 }
 
 /// The text that shows a key of each fact of the first format, with its day and its measures.
-fn text_of(which: FactColumn) -> &'static str
+fn keyed_sales(which: FactColumn) -> &'static str
     ensures { result.now ≡ keyed_sales which }
 {
     match which {
@@ -58,7 +58,7 @@ fn text_of(which: FactColumn) -> &'static str
 }
 
 /// The same of the second format.
-fn text_of2(which: FactColumn) -> &'static str
+fn keyed_sales2(which: FactColumn) -> &'static str
     ensures { result.now ≡ keyed_sales2 which }
 {
     match which {
@@ -89,8 +89,8 @@ fn facts_by(format: Format, which: FactColumn) -> &'static str
     ensures { result.now ≡ facts_by format which }
 {
     match format {
-        Format::One => text_of(which),
-        Format::Two => text_of2(which),
+        Format::One => keyed_sales(which),
+        Format::Two => keyed_sales2(which),
     }
 }
 
@@ -106,7 +106,7 @@ fn facts_table(format: Format) -> Table
 
 /// Counts the sale that a row of the facts of a format shows.
 fn count_row<C: FactAggregate>(tally: &mut C, format: Format, row: &Row) -> Result<(), ReadFault>
-    ensures counted { IfOk result (λ _. (sale : KeyedSale) × (row.now ≡ columns_of sale) × CountsOne C.counts tally.old tally.new sale) }
+    ensures counted { IfOk result (λ _. (sale : KeyedSale) × (row.now ≡ read_keyed_sale sale) × CountsOne C.counts tally.old tally.new sale) }
     ensures damaged { IfErr result (λ fault. (fault ≡ Memory) ⊎ ((fault ≡ Damaged (facts_table format)) × ShowsNoFact row.now)) }
 {
     match KeyedSale::read(row) {

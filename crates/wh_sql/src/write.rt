@@ -12,7 +12,7 @@ ghost use Rattle.wh_rows.specs.AtRest.{IsWriting, Leaves, IsCauseOf};
 ghost use Rattle.wh_sql.specs.Facts.{rekeying, with_rekeyed};
 
 use crate::keeps::KeyedTable;
-use crate::keys::line_and_keys;
+use crate::keys::bind_rekey;
 use sqlite::{Alter, Connection};
 use std::alloc::Global;
 use wh_history::FactKeys;
@@ -101,7 +101,7 @@ pub fn rekey<S: Alter>(
     if conn.is_autocommit() {
         return Err(Cause::Disk);
     }
-    let values = line_and_keys(alloc, line, keys)?;
+    let values = bind_rekey(alloc, line, keys)?;
     conn.execute(rekeying(format), &values)?;
     Ok(())
 }

@@ -13,7 +13,7 @@ use Rattle.wh_store.specs.declared.tables.Tables.{Tables}
 -- what a crate above says of a reading, in the words of the statements
 pub use Rattle.wh_sql.specs.Reads.{ReadsOnly, Spares, IsServed, IsUndamaged, NamesDamage, SparesStore, SparesRows, IsOfDamage, IsOfAskedDamage}
 pub use Rattle.wh_sql.specs.Asked.{same_text, same_slots}
-pub use Rattle.wh_sql.specs.Present.{is_any_taken, is_second_taken, are_all_there, is_second_there}
+pub use Rattle.wh_sql.specs.Present.{is_any_taken, is_second_taken, has_tables, has_second}
 
 -- the state of the connection that tables stand over
 abbrev pub state_of : {S : Type 0} → Ghosts S → Tables S → State

@@ -117,7 +117,7 @@ pub(crate) fn row(alloc: Global, name: &str, count: u64) -> Result<MetaRow, Caus
 }
 
 /// The limits of these numbers, where the three are there and good.
-pub(crate) fn limits(
+pub(crate) fn limits_of_numbers(
     commands: Option<i64>,
     changes: Option<i64>,
     facts: Option<i64>,

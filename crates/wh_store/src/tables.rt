@@ -25,7 +25,7 @@ ghost use Rattle.wh_sql.specs.Reads.{ReadsOnly, Spares, IsServed, IsOfDamage, Is
 ghost use Rattle.wh_sql.specs.Facts.{facts_by};
 ghost use Rattle.wh_sql.specs.Refused.{IsCauseOfQuery, IsOneRefused};
 ghost use Rattle.wh_store.specs.Reads.{state_of, SaysAtRest, SaysAsStored};
-ghost use Rattle.wh_sql.specs.Present.{is_any_taken, is_second_taken, are_all_there, is_second_there};
+ghost use Rattle.wh_sql.specs.Present.{is_any_taken, is_second_taken, has_tables, has_second};
 ghost use Rattle.wh_sql.specs.Tally.{HasCounted, HasCountedStored};
 ghost use Rattle.wh_sql.specs.declared.fault.ReadFault.TheVariants.{Damaged, Store as Refused};
 ghost use Rattle.wh_store.specs.Meta.{limits_in, limits_asked};
@@ -43,7 +43,7 @@ use wh_policy::{Dim, Format};
 use wh_rows::{Cause, FactColumn, Limits, Table};
 use wh_sql::{
     FactAggregate, KeyedTable, Question, ReadFault, all, ask, count, get, greatest_anchor,
-    has_second, has_second_name, has_tables, has_taken_name, tally_facts,
+    has_second, has_tables, is_any_taken, is_second_taken, tally_facts,
 };
 
 /// The tables over one connection.
@@ -67,7 +67,7 @@ impl<S: Alter> Tables<S> {
         if !conn.is_autocommit() {
             return Err((MakeFault::Store(Cause::Disk), conn));
         }
-        if has_taken_name(&conn) {
+        if is_any_taken(&conn) {
             return Err((MakeFault::NotEmpty, conn));
         }
         Ok(Tables { conn })
@@ -81,14 +81,14 @@ impl<S: Alter> Tables<S> {
         newest: Format,
     ) -> Result<(Tables<S>, Format), (OpenFault, Connection<S>)>
         ensures reads { Spares (state S.Store conn) (state S.Store (connection_after result)) (IfErr result (λ e. SparesStore e.0)) }
-        ensures taken { SaysAtRest (state S.Store conn) (state S.Store (connection_after result)) (λ t. IfOk result (λ opened. IsTaken newest (is_second_there (state S.Store conn).now.schema) t opened.1)) }
-        ensures refused { SaysAtRest (state S.Store conn) (state S.Store (connection_after result)) (λ t. are_all_there (state S.Store conn).now.schema ≡ true → IfErr result (λ e. IsRefusedWith newest (is_second_there (state S.Store conn).now.schema) t (state S.Store conn) (state S.Store e.1) e.0)) }
+        ensures taken { SaysAtRest (state S.Store conn) (state S.Store (connection_after result)) (λ t. IfOk result (λ opened. IsTaken newest (has_second (state S.Store conn).now.schema) t opened.1)) }
+        ensures refused { SaysAtRest (state S.Store conn) (state S.Store (connection_after result)) (λ t. has_tables (state S.Store conn).now.schema ≡ true → IfErr result (λ e. IsRefusedWith newest (has_second (state S.Store conn).now.schema) t (state S.Store conn) (state S.Store e.1) e.0)) }
         ensures known { IfOk result (λ opened. format_number opened.1 ≤ format_number newest) }
         // The same of any stored rows: by those of the format.
-        ensures taken_stored { SaysAsStored (state S.Store conn) (state S.Store (connection_after result)) (λ stored. IfOk result (λ opened. FormatIs newest (is_second_there (state S.Store conn).now.schema) stored (Ok opened.1))) }
-        ensures refused_stored { SaysAsStored (state S.Store conn) (state S.Store (connection_after result)) (λ stored. are_all_there (state S.Store conn).now.schema ≡ true → IfErr result (λ e. IsRefusedOn newest (is_second_there (state S.Store conn).now.schema) stored e.0)) }
+        ensures taken_stored { SaysAsStored (state S.Store conn) (state S.Store (connection_after result)) (λ stored. IfOk result (λ opened. FormatIs newest (has_second (state S.Store conn).now.schema) stored (Ok opened.1))) }
+        ensures refused_stored { SaysAsStored (state S.Store conn) (state S.Store (connection_after result)) (λ stored. has_tables (state S.Store conn).now.schema ≡ true → IfErr result (λ e. IsRefusedOn newest (has_second (state S.Store conn).now.schema) stored e.0)) }
         ensures within { IsTrue conn.in_transaction → result ≡ Err (OpenFault.Store Cause.Disk, conn) }
-        ensures missing { conn.in_transaction ≡ false → are_all_there (state S.Store conn).now.schema ≡ false → result ≡ Err (OpenFault.NotAWarehouse, conn) }
+        ensures missing { conn.in_transaction ≡ false → has_tables (state S.Store conn).now.schema ≡ false → result ≡ Err (OpenFault.NotAWarehouse, conn) }
     {
         if !conn.is_autocommit() {
             return Err((OpenFault::Store(Cause::Disk), conn));
@@ -108,7 +108,7 @@ impl<S: Alter> Tables<S> {
     pub fn is_second_taken(&self) -> bool
         ensures { result ≡ is_second_taken (state_of S.Store self.now).now.schema }
     {
-        has_second_name(&self.conn)
+        is_second_taken(&self.conn)
     }
 
     /// The limits that were chosen at the making. `Damaged` names meta if one of the three is missing or invalid.
@@ -124,7 +124,7 @@ impl<S: Alter> Tables<S> {
         let commands = meta::number(alloc, &mut self.conn, "commands_max")?;
         let changes = meta::number(alloc, &mut self.conn, "changes_max")?;
         let facts = meta::number(alloc, &mut self.conn, "facts_max")?;
-        match meta::limits(commands, changes, facts) {
+        match meta::limits_of_numbers(commands, changes, facts) {
             Some(limits) => Ok(limits),
             None => Err(ReadFault::Damaged(Table::Meta)),
         }

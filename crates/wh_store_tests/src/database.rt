@@ -10,7 +10,7 @@ use sqlite::{Alter, Connection};
 use std::alloc::Global;
 use wh_policy::Format;
 use wh_rows::Cause;
-use wh_sql::{create, has_tables, has_taken_name};
+use wh_sql::{create, has_tables, is_any_taken};
 
 /// A step on a database.
 pub fn on_database<S: Alter>(
@@ -59,7 +59,7 @@ fn run_bound<S: Alter>(
 
 /// Whether one of the ten names is taken, whether the ten tables are there, and whether a transaction is under way.
 fn status<S: Alter>(conn: &Connection<S>, out: &mut String) -> Result<(), Trouble> {
-    let taken = has_taken_name(conn);
+    let taken = is_any_taken(conn);
     let whole = has_tables(conn);
     let text = match (taken, whole) {
         (false, false) => "free",

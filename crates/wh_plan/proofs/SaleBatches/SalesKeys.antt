@@ -17,7 +17,7 @@ use Rattle.wh_history.specs.Profiles.{current_by, profile_number}
 use Rattle.wh_history.specs.Rows.{rows}
 use Rattle.wh_history.specs.Shapes.{Shape, RenderedMember, shape_after, rendered_in, shown}
 use Rattle.wh_history.specs.Tables.{fact_of}
-use Rattle.wh_history.specs.declared.dimension.Rendered.{Rendered}
+use Rattle.wh_history.specs.declared.dimension.RenderedRows.{RenderedRows}
 use Rattle.wh_history.specs.declared.facts.Fact.{Fact}
 use Rattle.wh_history.specs.declared.facts.MemberKeys.{MemberKeys}
 use Rattle.wh_history.specs.declared.member.Member.{Member}
@@ -34,7 +34,7 @@ use Rattle.wh_model.proofs.QuietRows.{sold_to}
 -- ---- members by their natural keys
 
 -- what is found among rendered members is found among what they show
-pub found_shown : (list : List Rendered) (natural : List ℕ) → option_map shown (find (λ m. bytes_eq m.member.now.natural natural) list) ≡ rendered_named (map shown list) natural
+pub found_shown : (list : List RenderedRows) (natural : List ℕ) → option_map shown (find (λ m. bytes_eq m.member.now.natural natural) list) ≡ rendered_named (map shown list) natural
 found_shown [] natural = refl
 found_shown (m ∷ ms) natural =
     elim (bytes_eq m.member.now.natural natural) as (λ b. option_map shown (cond b (Some m) (find (λ m. bytes_eq m.member.now.natural natural) ms)) ≡ cond b (Some (shown m)) (rendered_named (map shown ms) natural)) [

@@ -5,7 +5,7 @@ use Rattle.std.specs.List.{AllByRecursion, range_with_len, cons_option}
 use Rattle.std.proofs.lemmas.Bool.{eq-eqb}
 use Rattle.std.proofs.lemmas.List.{append_assoc}
 use Rattle.wh_day.specs.Day.{first_day, last_day}
-use Rattle.wh_policy.specs.Policy.{types_of}
+use Rattle.wh_policy.specs.Policy.{policy_types}
 use Rattle.wh_policy.specs.declared.attribute.AttributeType.{AttributeType}
 use Rattle.wh_policy.specs.declared.attribute.Dim.{Dim}
 use Rattle.wh_policy.specs.declared.attribute.Dim.TheVariants.{Product, Store, Customer}
@@ -168,8 +168,8 @@ module _ (dim : Dim) (commands : List Accepted) (c : Accepted) (sales : List Sal
   members_counted rs planned =
       ap (λ ms. length ms + length (members dim commands)) (planned ∙ sym (rows_behind dim commands after (naturals_sold dim sales) members_later)) ∙ rows_counted dim commands after (naturals_sold dim sales) members_later
 
-  pub types_sold : (policy : Policy) → policy_after None commands ≡ Some policy → types_of policy dim ≡ types_in dim (commands ++ c ∷ [])
-  types_sold policy governed = sym (ap (λ o. unwrap_or (option_map (λ (p : Policy). types_of p dim) o) []) (policy_last None commands c (batch commands c sales is) ∙ governed))
+  pub types_sold : (policy : Policy) → policy_after None commands ≡ Some policy → policy_types policy dim ≡ types_in dim (commands ++ c ∷ [])
+  types_sold policy governed = sym (ap (λ o. unwrap_or (option_map (λ (p : Policy). policy_types p dim) o) []) (policy_last None commands c (batch commands c sales is) ∙ governed))
 
   pub members_were : length (members dim (commands ++ c ∷ [])) ≤ 9999999 → length (members dim commands) ≤ 9999999
   members_were few =

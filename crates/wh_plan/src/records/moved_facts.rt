@@ -20,7 +20,7 @@ ghost use Rattle.wh_model.specs.Sound.{AreTypes, IsAccepted};
 use crate::records::touched::{TouchedMember, touched_pairs};
 use sqlite::Alter;
 use std::alloc::{AllocError, Global};
-use wh_history::{DimensionShape, Fact, Member, Rendered, moves_since};
+use wh_history::{DimensionShape, Fact, Member, RenderedRows, moves_since};
 use wh_policy::Format;
 use wh_store::{ReadFault, SalesBetween, Tables};
 
@@ -29,7 +29,7 @@ fn facts_to_ask(
     alloc: Global,
     dimension: &DimensionShape,
     stored: &Member,
-    after: &Rendered,
+    after: &RenderedRows,
 ) -> Result<SalesBetween, AllocError>
     ensures { IfOk result (λ q. q ≡ record { dim = dimension.now.dim; durable = after.now.member.now.durable; from = moves_since stored.now.changes after.now.member.now.changes; to = moves_until (rendered_in (shape_of dimension.now) stored.now) (shown after.now) }) }
 {

@@ -25,7 +25,7 @@ use crate::batch_rows::{BatchRows, edits_of_batch};
 use crate::edits::Edits;
 use crate::fact_edits::fact_rekeys;
 use crate::naturals::naturals_told;
-use crate::new_rows::{new_changes, new_members, rows_of_members};
+use crate::new_rows::{new_change_rows, new_member_rows, rows_of_members};
 use crate::numbers::{NumbersDrawn, numbers_drawn};
 use crate::profiles::learned_of;
 use crate::reading::{stored_member, stored_rows};
@@ -193,8 +193,8 @@ fn rows_of_batch(
         → IsPlanned dimension.now records.now commands (commands ++ c ∷ []) after.now planned → IfOk result (AreBatchRows commands c) }
 {
     let dim = dimension.dim;
-    let members = new_members(alloc, dim, planned.found.drawn.members, after)?;
-    let changes = new_changes(alloc, dim, command.number, after, records)?;
+    let members = new_member_rows(alloc, dim, planned.found.drawn.members, after)?;
+    let changes = new_change_rows(alloc, dim, command.number, after, records)?;
     let rows = row_edits(alloc, dimension, after, &planned.found.rows)?;
     let rows = of_dimension(alloc, dim, rows);
     let facts = fact_rekeys(alloc, planned.facts)?;

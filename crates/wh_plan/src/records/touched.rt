@@ -17,7 +17,7 @@ use crate::numbers::NumbersDrawn;
 use std::alloc::{AllocError, Global};
 use std::collections::BTreeMap;
 use wh_day::{ParseError, Value};
-use wh_history::{Member, MemberSource, Touched, touch_all};
+use wh_history::{Member, MemberSource, TouchedMembers, touch_all};
 use wh_policy::DimensionRecord;
 
 /// Members that were read from the tables, to be found by their natural keys.
@@ -51,7 +51,7 @@ pub(crate) fn touched_members(
     stored: &[Member],
     drawn: NumbersDrawn,
     records: &[DimensionRecord],
-) -> Result<Touched, AllocError>
+) -> Result<TouchedMembers, AllocError>
     requires members { drawn.members ≤ greatest_number }
     requires anchors { drawn.anchors ≤ greatest_number }
     ensures { (dim : Dim) (commands : List Accepted) (c : Accepted) → c.content ≡ Describes dim records.now

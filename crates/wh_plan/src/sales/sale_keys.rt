@@ -15,7 +15,7 @@ use crate::by_natural::by_natural;
 use std::alloc::{AllocError, Global};
 use std::collections::BTreeMap;
 use wh_day::{NaturalKey, Value};
-use wh_history::{DimensionShape, Fact, FactKeys, Member, MemberKeys, Rendered};
+use wh_history::{DimensionShape, Fact, FactKeys, Member, MemberKeys, RenderedRows};
 use wh_policy::{Dim, SaleRecord};
 
 /// Members with their rows and dated lists.
@@ -23,7 +23,7 @@ pub fn rendered_members<'a>(
     alloc: Global,
     dimension: &DimensionShape,
     members: &'a [Member],
-) -> Result<Vec<Rendered<'a>>, AllocError>
+) -> Result<Vec<RenderedRows<'a>>, AllocError>
     ensures { IfOk result (λ all. map shown all.items ≡ map (rendered_in (shape_of dimension.now)) members.now) }
 {
     let mut all = Vec::new(alloc);
@@ -51,10 +51,10 @@ pub(crate) fn member_of_sale(dim: Dim, sale: &SaleRecord) -> Option<&NaturalKey>
 fn keys_of_sale(
     alloc: Global,
     dimension: &DimensionShape,
-    members: &BTreeMap<&str, &Rendered>,
+    members: &BTreeMap<&str, &RenderedRows>,
     sale: &SaleRecord,
 ) -> Result<MemberKeys, AllocError>
-    ensures { (list : List Rendered) → ((natural : List ℕ) → option_copied (get_by (λ k. slice_cmp nat_cmp natural k.now) members.now) ≡ find (λ m. bytes_eq m.member.now.natural natural) list)
+    ensures { (list : List RenderedRows) → ((natural : List ℕ) → option_copied (get_by (λ k. slice_cmp nat_cmp natural k.now) members.now) ≡ find (λ m. bytes_eq m.member.now.natural natural) list)
         → IfOk result (λ keys. keys ≡ keys_among (shape_of dimension.now) (map shown list) sale.now) }
 {
     let found = match member_of_sale(dimension.dim, sale) {
@@ -75,7 +75,7 @@ fn keys_of_sale(
 pub(crate) fn keys_of_sales(
     alloc: Global,
     dimension: &DimensionShape,
-    members: &[Rendered],
+    members: &[RenderedRows],
     sales: &[SaleRecord],
 ) -> Result<Vec<MemberKeys>, AllocError>
     ensures keys { IfOk result (λ keys. keys.items ≡ map (keys_among (shape_of dimension.now) (map shown members.now)) sales.now) }
@@ -120,7 +120,7 @@ fn fact_with(
 }
 
 /// The facts of sales, by what their members give them.
-pub(crate) fn facts_of(
+pub(crate) fn sold_facts(
     alloc: Global,
     sales: &[SaleRecord],
     products: &[MemberKeys],

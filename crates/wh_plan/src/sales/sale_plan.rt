@@ -16,7 +16,7 @@ ghost use Rattle.wh_plan.specs.Reads.{Finds};
 use crate::batch_rows::{BatchRows, edits_of_batch};
 use crate::edits::Edits;
 use crate::fact_edits::fact_puts;
-use crate::sales::sale_keys::facts_of;
+use crate::sales::sale_keys::sold_facts;
 use crate::sales::sold_dimension::{SoldDimension, read_sold_dimension};
 use crate::terms::Terms;
 use sqlite::Alter;
@@ -43,7 +43,7 @@ fn rows_of_sales(
         → command_at (commands ++ c ∷ []) (suc (length commands)) ≡ Some (record command { placeholders = placeholders_by (commands ++ c ∷ []) (suc (length commands)) c.content })
         → IfOk result (AreBatchRows commands c) }
 {
-    let sold = facts_of(alloc, sales, &products.keys, &stores.keys, &customers.keys)?;
+    let sold = sold_facts(alloc, sales, &products.keys, &stores.keys, &customers.keys)?;
     let facts = fact_puts(alloc, sold)?;
     let mut members = products.members;
     let mut of_stores = stores.members;

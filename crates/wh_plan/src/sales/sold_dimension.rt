@@ -15,7 +15,7 @@ ghost use Rattle.wh_plan.specs.SoldMembers.{naturals_sold, numbered, placeholder
 ghost use Rattle.wh_model.specs.Sound.{AreTypes};
 
 use crate::naturals::naturals_sold;
-use crate::new_rows::new_members;
+use crate::new_rows::new_member_rows;
 use crate::numbers::{NumbersDrawn, numbers_drawn};
 use crate::profiles::known_of;
 use crate::reading::stored_member;
@@ -23,7 +23,7 @@ use crate::sales::sale_keys::{keys_of_sales, rendered_members};
 use sqlite::Alter;
 use std::alloc::{AllocError, Global};
 use wh_day::Value;
-use wh_history::{DimRow, DimensionShape, Edit, Member, MemberKeys, Rendered, give_numbers};
+use wh_history::{DimRow, DimensionShape, Edit, Member, MemberKeys, RenderedRows, give_numbers};
 use wh_policy::{Dim, Policy, SaleRecord};
 use wh_rows::MemberRow;
 use wh_store::{ReadFault, Tables};
@@ -57,7 +57,7 @@ fn members_with_numbers<S: Alter>(
 fn placeholder(
     alloc: Global,
     members_before: u64,
-    member: &Rendered,
+    member: &RenderedRows,
 ) -> Result<Option<DimRow>, AllocError>
     ensures { IfOk result (λ row. row ≡ placeholder members_before (shown member.now)) }
 {
@@ -73,7 +73,7 @@ fn placeholder(
 fn placeholders(
     alloc: Global,
     members_before: u64,
-    members: &[Rendered],
+    members: &[RenderedRows],
 ) -> Result<Vec<Edit<DimRow, u64>>, AllocError>
     ensures { IfOk result (λ edits. edits.items ≡ map Put (filter_map (placeholder members_before) (map shown members.now))) }
 {
@@ -114,7 +114,7 @@ fn sold_dimension_of(
     let rendered = rendered_members(alloc, dimension, mentioned)?;
     Ok(SoldDimension {
         keys: keys_of_sales(alloc, dimension, &rendered, sales)?,
-        members: new_members(alloc, dimension.dim, members_before, mentioned)?,
+        members: new_member_rows(alloc, dimension.dim, members_before, mentioned)?,
         rows: placeholders(alloc, members_before, &rendered)?,
     })
 }

@@ -10,9 +10,9 @@ ghost use Rattle.wh_program.specs.Reply.{refused_line};
 use crate::lines::answer::{Answer, Status};
 use crate::lines::{fault_answer, push_refused};
 use std::alloc::{AllocError, Global};
-use wh_batch::{Column, CommandKind, Kind, columns};
-use wh_engine::{Fault, Preview, Receipt, Refused};
-use wh_explain::{Sent, add_columns, add_first_mentions, add_kind, add_refusal, push_names};
+use wh_batch::{Column, CommandKind, Kind, columns_of};
+use wh_engine::{Fault, Preview, Receipt, Refusal};
+use wh_explain::{SentCommand, add_columns, add_first_mentions, add_kind, add_refusal, push_names};
 use wh_plan::Edits;
 use wh_policy::{Format, Policy};
 
@@ -50,7 +50,7 @@ fn acceptable(alloc: Global, kind: CommandKind, preview: &Preview) -> Result<Ans
 }
 
 /// The answer to an input that would be refused.
-fn unacceptable(alloc: Global, why: &Refused, sent: &Sent) -> Result<Answer, AllocError>
+fn unacceptable(alloc: Global, why: &Refusal, sent: &SentCommand) -> Result<Answer, AllocError>
     ensures { IfOk result (Begins (refused (refused_line why.now))) }
 {
     let mut text = Vec::new(alloc);
@@ -63,7 +63,7 @@ fn unacceptable(alloc: Global, why: &Refused, sent: &Sent) -> Result<Answer, All
 pub fn explained(
     alloc: Global,
     preview: Result<Preview, Fault>,
-    sent: &Sent,
+    sent: &SentCommand,
 ) -> Result<Answer, AllocError>
     ensures { IfOk result (Begins (preview_answer preview)) }
 {
@@ -93,7 +93,7 @@ fn columns_described(
 ) -> Result<Answer, AllocError>
     ensures { IfOk result (Begins (done (header_line (columns_of kind policy.now format)))) }
 {
-    let columns = columns(alloc, kind, policy, format)?;
+    let columns = columns_of(alloc, kind, policy, format)?;
     let mut text = header_line(alloc, &columns)?;
     add_columns(&mut text, alloc, &columns, policy.years)?;
     Ok(Answer::new(Status::Done, text))
@@ -133,7 +133,7 @@ fn batch_described(
 }
 
 /// What a command of this kind takes.
-pub fn described(
+pub fn description_answer(
     alloc: Global,
     kind: CommandKind,
     policy: &Policy,

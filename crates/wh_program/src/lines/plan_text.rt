@@ -275,7 +275,7 @@ fn push_facts(text: &mut Vec<u8>, edits: &Edits) -> Result<(), AllocError>
 }
 
 /// How many edits there are, in all tables.
-fn count(edits: &Edits) -> u128
+fn edit_count(edits: &Edits) -> u128
     ensures { result ≡ edit_count edits.now }
 {
     edits.meta.len() as u128
@@ -297,7 +297,7 @@ fn push_count(text: &mut Vec<u8>, edits: &Edits) -> Result<(), AllocError>
     ensures { OnOk result (text.new.items ≡ text.old.items ++ count_line edits.now) }
 {
     text.extend_from_slice(b"edits ")?;
-    text.extend_from_slice(Buffer::new().format(count(edits)).as_bytes())?;
+    text.extend_from_slice(Buffer::new().format(edit_count(edits)).as_bytes())?;
     text.extend_from_slice(b"\n")
 }
 

@@ -7,23 +7,23 @@ ghost use Rattle.wh_program.specs.Answer.{failed, refused, line, write_line, no_
 ghost use Rattle.wh_program.specs.Reply.{no_reading_line, request_line, report_fault_answer, report_answer};
 
 use crate::lines::answer::{Answer, Status};
-use crate::lines::{MODES, WRITE_LINE, damaged, fault_answer, fixed_line, wrong_word_line};
+use crate::lines::{MODES, WRITE_LINE, damaged_answer, fault_answer, fixed_line, wrong_word_line};
 use std::alloc::{AllocError, Global};
 use wh_policy::AttributeType;
 use wh_report::{Mode, ReportFault, RequestFault};
 
 /// The line where an attribute of the type of this number has nothing to show in the mode of this word.
-fn no_reading_line(alloc: Global, number: u64, word: &str) -> Result<String, AllocError>
+fn no_reading_text(alloc: Global, number: u64, word: &str) -> Result<String, AllocError>
     ensures { IfOk result (λ text. string_bytes text ≡ line (codes "refused: G2 no reading, type " ++ decimal number ++ codes " " ++ word.now)) }
 {
     format!(in alloc; "refused: G2 no reading, type {number} {word}\n")
 }
 
 /// The answer where an attribute of this type has nothing to show.
-fn no_reading(alloc: Global, kind: AttributeType, mode: Mode) -> Result<Answer, AllocError>
+fn no_reading_answer(alloc: Global, kind: AttributeType, mode: Mode) -> Result<Answer, AllocError>
     ensures { IfOk result (λ answer. answer ≡ refused (no_reading_line kind mode)) }
 {
-    let line = no_reading_line(alloc, u64::from(kind.number()), mode.word())?;
+    let line = no_reading_text(alloc, u64::from(kind.number()), mode.word())?;
     Ok(Answer::new(Status::Refused, line.into_bytes()))
 }
 
@@ -54,7 +54,7 @@ pub fn request_answer(alloc: Global, fault: RequestFault) -> Result<Answer, Allo
             Status::Refused,
             "refused: G1 no attribute\n",
         ),
-        RequestFault::NoReading(kind, mode) => no_reading(alloc, kind, mode),
+        RequestFault::NoReading(kind, mode) => no_reading_answer(alloc, kind, mode),
         RequestFault::NoDateReading(mode) => no_date_reading(alloc, mode),
         RequestFault::BadRange => fixed_line(alloc, Status::Refused, "refused: G3 bad range\n"),
     }
@@ -76,12 +76,12 @@ pub fn report_fault_answer(alloc: Global, fault: ReportFault) -> Result<Answer, 
     match fault {
         ReportFault::Write => unwritten(alloc),
         ReportFault::Warehouse(fault) | ReportFault::Unwritten(fault) => fault_answer(alloc, fault),
-        ReportFault::Inconsistent(table) => damaged(alloc, table),
+        ReportFault::Inconsistent(table) => damaged_answer(alloc, table),
     }
 }
 
 /// The answer to a report that was worked out.
-pub fn worked_answer(
+pub fn report_answer(
     alloc: Global,
     worked: Result<Vec<u8>, ReportFault>,
 ) -> Result<Answer, AllocError>

@@ -22,7 +22,7 @@ use crate::lines::{
     MEMORY_LINE, bad_manifest, no_file, opening_answer, push_sent, room_for_delivery, sent_status,
 };
 use crate::output::{print, print_answer};
-use crate::visits::warehouse::command_of;
+use crate::visits::warehouse::command_from_file;
 use sqlite::{Alter, Connection};
 use std::alloc::{AllocError, Global};
 use std::io::Write;
@@ -135,7 +135,7 @@ fn commands_of<'a, H: Host>(
 {
     let mut commands = Vec::with_capacity(alloc, entries.len())?;
     for entry in entries {
-        match command_of(
+        match command_from_file(
             alloc,
             entry.kind,
             entry.id.as_str(),

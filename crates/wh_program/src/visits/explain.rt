@@ -4,20 +4,20 @@ ghost use Rattle.wh_engine.specs.Previewed.{IsPreviewed};
 ghost use Rattle.wh_engine.specs.Scanned.{EngineReadsThrough, WasClean, WhenReady};
 ghost use Rattle.wh_program.specs.Explained.{IsExplained, IsDescribed, Explains, AnswersExplanation};
 ghost use Rattle.wh_program.specs.Inputs.{as_input};
-ghost use Rattle.wh_program.specs.Request.{text_of};
+ghost use Rattle.wh_program.specs.Request.{optional_text};
 ghost use Rattle.wh_program.specs.Standing.{DatabaseContent, Rests};
 ghost use Rattle.wh_program.specs.Warehouse.{AnswersWith};
 
 use crate::host::Host;
 use crate::lines::answer::Answer;
-use crate::lines::explaining::{described, explained};
+use crate::lines::explaining::{description_answer, explained};
 use crate::lines::no_file;
 use crate::visits::opened::{Work, work_on};
 use crate::visits::warehouse::input_of;
 use sqlite::Alter;
 use std::alloc::{AllocError, Global};
-use wh_engine::{CommandKind, Engine, Fault, Preview, Refused};
-use wh_explain::{Sent, TracedLines, refused_lines};
+use wh_engine::{CommandKind, Engine, Fault, Preview, Refusal};
+use wh_explain::{SentCommand, TracedLines, refused_lines};
 use wh_policy::{Format, Policy};
 use wh_rows::tables;
 use wh_store::Cursor;
@@ -44,13 +44,13 @@ fn noted<S: Alter>(
 /// The lines of a batch with these bytes, if it is refused for one of them.
 fn lines_in<'a>(
     alloc: Global,
-    why: &Refused,
+    why: &Refusal,
     kind: CommandKind,
     policy: &'a Policy,
     format: Format,
     bytes: &'a [u8],
 ) -> Result<Option<TracedLines>, AllocError> {
-    let sent = Sent {
+    let sent = SentCommand {
         kind,
         policy,
         format,
@@ -64,7 +64,7 @@ fn lines_in<'a>(
 fn lines_of<S: Alter>(
     alloc: Global,
     engine: &mut Engine<S>,
-    why: &Refused,
+    why: &Refusal,
     kind: CommandKind,
     bytes: &[u8],
 ) -> Result<Option<TracedLines>, Fault>
@@ -109,7 +109,7 @@ impl Work for Explaining {
 
     fn work<S: Alter>(self, alloc: Global, engine: &mut Engine<S>) -> Result<Answer, AllocError> {
         let (preview, lines) = traced(alloc, engine, self.kind, &self.bytes);
-        let sent = Sent {
+        let sent = SentCommand {
             kind: self.kind,
             policy: engine.policy(),
             format: engine.format(),
@@ -130,7 +130,7 @@ impl Work for Describing {
     ghost does = { λ describing. IsDescribed describing.kind };
 
     fn work<S: Alter>(self, alloc: Global, engine: &mut Engine<S>) -> Result<Answer, AllocError> {
-        described(alloc, self.kind, engine.policy(), engine.format())
+        description_answer(alloc, self.kind, engine.policy(), engine.format())
     }
 }
 
@@ -160,7 +160,7 @@ pub fn explain<H: Host>(
     host: &mut H,
 ) -> Result<Answer, AllocError>
     ensures { (content : DatabaseContent) → H.stores host.old file.now (Rests content)
-        → AnswersExplanation (H.holds host.old) (H.refuses host.old) (H.stores host.new file.now) content file.now kind (text_of path.entry) result }
+        → AnswersExplanation (H.holds host.old) (H.refuses host.old) (H.stores host.new file.now) content file.now kind (optional_text path.entry) result }
 {
     match path {
         Some(path) => explain_input(alloc, file, kind, path, host),

@@ -10,7 +10,7 @@ ghost use Rattle.wh_program.specs.Standing.{DatabaseContent, Rests};
 
 use crate::host::Host;
 use crate::lines::answer::Answer;
-use crate::lines::reporting::{request_answer, worked_answer};
+use crate::lines::reporting::{report_answer, request_answer};
 use crate::visits::opened::{Work, work_on};
 use crate::words::command::AskedReport;
 use sqlite::Alter;
@@ -32,7 +32,7 @@ pub fn asked_answer<S: Alter>(
     let from = asked.from.as_bytes();
     let to = asked.to.as_bytes();
     match Request::read(alloc, policy, asked.attribute, asked.mode, from, to) {
-        Ok(request) => worked_answer(alloc, report(alloc, engine, &request)),
+        Ok(request) => report_answer(alloc, report(alloc, engine, &request)),
         Err(ParseError::Fault(fault)) => request_answer(alloc, fault),
         Err(ParseError::Memory) => Err(AllocError),
     }
@@ -53,7 +53,7 @@ impl Work for Reporting<'_> {
 }
 
 /// Tells what the warehouse in a file has sold.
-pub fn report_answer<H: Host>(
+pub fn answered_report<H: Host>(
     alloc: Global,
     file: &str,
     asked: AskedReport<'_>,

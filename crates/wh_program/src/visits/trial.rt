@@ -1,9 +1,9 @@
 //! Trials: a dimension's table as one batch makes it, without a warehouse.
 
 ghost use Rattle.std.specs.Prelude.{◌≡◌, Some, None, IfOk};
-ghost use Rattle.wh_policy.specs.Policy.{policy_at};
+ghost use Rattle.wh_policy.specs.Policy.{read_policy};
 ghost use Rattle.wh_program.specs.Answer.{table_answer, trial_rows, answer_under, AnswersTrial};
-ghost use Rattle.wh_program.specs.Request.{text_of};
+ghost use Rattle.wh_program.specs.Request.{optional_text};
 
 use crate::host::{Host, file_of};
 use crate::lines::answer::{Answer, Status};
@@ -39,7 +39,7 @@ fn table_answer(
 
 /// The table under the policy that a text writes, or the policy's first fault.
 fn answer_under(alloc: Global, dim: Dim, policy: &[u8], batch: &[u8]) -> Result<Answer, AllocError>
-    ensures { IfOk result (λ answer. answer ≡ answer_under dim batch.now (policy_at policy.now)) }
+    ensures { IfOk result (λ answer. answer ≡ answer_under dim batch.now (read_policy policy.now)) }
 {
     match Policy::read(alloc, policy) {
         Ok(policy) => table_answer(alloc, dim, &policy, batch),
@@ -86,7 +86,7 @@ pub fn trial<H: Host>(
     policy: Option<&str>,
     host: &H,
 ) -> Result<Answer, AllocError>
-    ensures { IfOk result (AnswersTrial (H.holds host.now) dim path.now (text_of policy.entry)) }
+    ensures { IfOk result (AnswersTrial (H.holds host.now) dim path.now (optional_text policy.entry)) }
 {
     match policy {
         Some(policy) => trial_under(alloc, dim, path, policy, host),

@@ -117,7 +117,7 @@ pub fn answered(
 }
 
 /// Makes the warehouse in a file, under the policy that these bytes write.
-fn make<H: Host>(
+fn init_under<H: Host>(
     alloc: Global,
     file: &str,
     policy: Vec<u8>,
@@ -144,7 +144,7 @@ pub fn init<H: Host>(
         return no_file(alloc, policy);
     };
     match Policy::read(alloc, &text) {
-        Ok(_) => make(alloc, file, text, host),
+        Ok(_) => init_under(alloc, file, text, host),
         Err(ParseError::Fault(fault)) => bad_policy(alloc, fault),
         Err(ParseError::Memory) => Err(AllocError),
     }
@@ -182,7 +182,7 @@ fn new_command(
 }
 
 /// The command whose batch, or whose policy, is in a file, if the file is there. An upgrade needs none.
-pub fn command_of<H: Host>(
+pub fn command_from_file<H: Host>(
     alloc: Global,
     kind: CommandKind,
     id: &str,
@@ -222,7 +222,7 @@ pub fn send<H: Host>(
     ensures { (content : DatabaseContent) → H.stores host.old file.now (Rests content)
         → AnswersWith (as_input kind (H.holds host.old)) (H.refuses host.old) (H.stores host.new file.now) (Sends kind id.now) content file.now path.now result }
 {
-    let Some(command) = command_of(alloc, kind, id, path, host)? else {
+    let Some(command) = command_from_file(alloc, kind, id, path, host)? else {
         return no_file(alloc, path);
     };
     send_command(alloc, file, command, host)
@@ -253,7 +253,7 @@ pub fn plan<H: Host>(
     ensures { (content : DatabaseContent) → H.stores host.old file.now (Rests content)
         → AnswersWith (as_input kind (H.holds host.old)) (H.refuses host.old) (H.stores host.new file.now) (Plans kind id.now) content file.now path.now result }
 {
-    let Some(command) = command_of(alloc, kind, id, path, host)? else {
+    let Some(command) = command_from_file(alloc, kind, id, path, host)? else {
         return no_file(alloc, path);
     };
     work_on(alloc, file, Planning { command }, host)

@@ -3,16 +3,16 @@
 ghost use Rattle.std.specs.Prelude.{◌≡◌, IfOk, IfErr, IsErr, Some, Ok, Err, map, option_map, true};
 ghost use Rattle.clap.specs.Words.{FailsBy, HasKind, Kinds, first_of, found_of, rows_of, subcommand_rows_of, kind_of, takes, subcommand_of};
 ghost use Rattle.clap.specs.declared.error.ErrorKind.TheVariants.{OutOfMemory};
-ghost use Rattle.wh_rows.specs.Names.{table_named};
+ghost use Rattle.wh_rows.specs.Names.{table_of_name};
 ghost use Rattle.wh_program.specs.Answer.{wrong_word_line};
 ghost use Rattle.wh_program.specs.CommandLine.{CommandLine, program_app, words_of, has_operands, named, named_trial, named_explain, named_init, named_sent, named_load, named_migrate, named_upgrade, named_deliver, named_plan, named_report, named_reports, named_dump, named_check, named_status};
-ghost use Rattle.wh_program.specs.Request.{text_of, sent_of, line_of, asked_in, Asks, IsDeclined, IsReadAs};
+ghost use Rattle.wh_program.specs.Request.{optional_text, sent_of, line_of, asked_in, Asks, IsDeclined, IsReadAs};
 ghost use Rattle.wh_program.specs.Task.{trial_asked, load_asked, plan_asked, explain_asked, report_asked, dump_asked, faults_in, asked_by};
 
 use crate::lines::{
     COMMAND_KINDS, DIMENSIONS, KINDS, MODES, NO_COMMAND_LINE, TABLES, wrong_word_line,
 };
-use crate::words::program_command;
+use crate::words::program_app;
 use clap::ArgMatches;
 use clap::error::ErrorKind;
 use std::alloc::{AllocError, Global};
@@ -126,7 +126,7 @@ fn matches_of<'a, S: AsStr>(alloc: Global, words: &'a [S]) -> Result<ArgMatches<
     ensures err { takes program_app (map S.text words.now) ≡ true → IfErr result (λ e. kind_of e ≡ OutOfMemory) }
     ensures faults { FailsBy (faults_in (map S.text words.now)) result }
 {
-    program_command(alloc)?.try_get_matches_from(words)
+    program_app(alloc)?.try_get_matches_from(words)
 }
 
 /// The operands that name a command and the warehouse that it is for.
@@ -198,7 +198,7 @@ enum Operands<'a> {
 }
 
 /// The value of an operand or an option.
-fn value_of<'a>(inner: &ArgMatches<'a>, name: &str) -> Option<&'a str>
+fn first_of<'a>(inner: &ArgMatches<'a>, name: &str) -> Option<&'a str>
     ensures { option_map (λ text. text.now) result ≡ first_of name.now (rows_of (found_of inner.now)) }
 {
     inner.get_str(name)
@@ -208,9 +208,9 @@ fn trial_operands<'a>(inner: &ArgMatches<'a>) -> Option<Operands<'a>>
     ensures { option_map line_of result ≡ named_trial (rows_of (found_of inner.now)) }
 {
     Some(Operands::Trial {
-        dimension: value_of(inner, "DIMENSION")?,
-        path: value_of(inner, "CSV")?,
-        policy: value_of(inner, "POLICY"),
+        dimension: first_of(inner, "DIMENSION")?,
+        path: first_of(inner, "CSV")?,
+        policy: first_of(inner, "POLICY"),
     })
 }
 
@@ -218,8 +218,8 @@ fn init_operands<'a>(inner: &ArgMatches<'a>) -> Option<Operands<'a>>
     ensures { option_map line_of result ≡ named_init (rows_of (found_of inner.now)) }
 {
     Some(Operands::Init {
-        file: value_of(inner, "FILE")?,
-        policy: value_of(inner, "POLICY")?,
+        file: first_of(inner, "FILE")?,
+        policy: first_of(inner, "POLICY")?,
     })
 }
 
@@ -228,10 +228,10 @@ fn sent_operands<'a>(inner: &ArgMatches<'a>, input: &str) -> Option<SentOperands
     ensures { option_map sent_of result ≡ named_sent input.now (rows_of (found_of inner.now)) }
 {
     Some(SentOperands {
-        file: value_of(inner, "FILE")?,
-        kind: value_of(inner, "KIND")?,
-        id: value_of(inner, "ID")?,
-        path: value_of(inner, input)?,
+        file: first_of(inner, "FILE")?,
+        kind: first_of(inner, "KIND")?,
+        id: first_of(inner, "ID")?,
+        path: first_of(inner, input)?,
     })
 }
 
@@ -245,9 +245,9 @@ fn migrate_operands<'a>(inner: &ArgMatches<'a>) -> Option<Operands<'a>>
     ensures { option_map line_of result ≡ named_migrate (rows_of (found_of inner.now)) }
 {
     Some(Operands::Migrate {
-        file: value_of(inner, "FILE")?,
-        id: value_of(inner, "ID")?,
-        policy: value_of(inner, "POLICY")?,
+        file: first_of(inner, "FILE")?,
+        id: first_of(inner, "ID")?,
+        policy: first_of(inner, "POLICY")?,
     })
 }
 
@@ -255,8 +255,8 @@ fn upgrade_operands<'a>(inner: &ArgMatches<'a>) -> Option<Operands<'a>>
     ensures { option_map line_of result ≡ named_upgrade (rows_of (found_of inner.now)) }
 {
     Some(Operands::Upgrade {
-        file: value_of(inner, "FILE")?,
-        id: value_of(inner, "ID")?,
+        file: first_of(inner, "FILE")?,
+        id: first_of(inner, "ID")?,
     })
 }
 
@@ -264,8 +264,8 @@ fn deliver_operands<'a>(inner: &ArgMatches<'a>) -> Option<Operands<'a>>
     ensures { option_map line_of result ≡ named_deliver (rows_of (found_of inner.now)) }
 {
     Some(Operands::Deliver {
-        file: value_of(inner, "FILE")?,
-        manifest: value_of(inner, "MANIFEST")?,
+        file: first_of(inner, "FILE")?,
+        manifest: first_of(inner, "MANIFEST")?,
     })
 }
 
@@ -279,9 +279,9 @@ fn explain_operands<'a>(inner: &ArgMatches<'a>) -> Option<Operands<'a>>
     ensures { option_map line_of result ≡ named_explain (rows_of (found_of inner.now)) }
 {
     Some(Operands::Explain {
-        file: value_of(inner, "FILE")?,
-        kind: value_of(inner, "KIND")?,
-        path: value_of(inner, "INPUT"),
+        file: first_of(inner, "FILE")?,
+        kind: first_of(inner, "KIND")?,
+        path: first_of(inner, "INPUT"),
     })
 }
 
@@ -289,11 +289,11 @@ fn report_operands<'a>(inner: &ArgMatches<'a>) -> Option<Operands<'a>>
     ensures { option_map line_of result ≡ named_report (rows_of (found_of inner.now)) }
 {
     Some(Operands::Report(ReportOperands {
-        file: value_of(inner, "FILE")?,
-        attribute: value_of(inner, "ATTRIBUTE")?,
-        mode: value_of(inner, "MODE")?,
-        from: value_of(inner, "FROM")?,
-        to: value_of(inner, "TO")?,
+        file: first_of(inner, "FILE")?,
+        attribute: first_of(inner, "ATTRIBUTE")?,
+        mode: first_of(inner, "MODE")?,
+        from: first_of(inner, "FROM")?,
+        to: first_of(inner, "TO")?,
     }))
 }
 
@@ -301,8 +301,8 @@ fn reports_operands<'a>(inner: &ArgMatches<'a>) -> Option<Operands<'a>>
     ensures { option_map line_of result ≡ named_reports (rows_of (found_of inner.now)) }
 {
     Some(Operands::Reports {
-        file: value_of(inner, "FILE")?,
-        list: value_of(inner, "LIST")?,
+        file: first_of(inner, "FILE")?,
+        list: first_of(inner, "LIST")?,
     })
 }
 
@@ -310,8 +310,8 @@ fn dump_operands<'a>(inner: &ArgMatches<'a>) -> Option<Operands<'a>>
     ensures { option_map line_of result ≡ named_dump (rows_of (found_of inner.now)) }
 {
     Some(Operands::Dump {
-        file: value_of(inner, "FILE")?,
-        table: value_of(inner, "TABLE")?,
+        file: first_of(inner, "FILE")?,
+        table: first_of(inner, "TABLE")?,
     })
 }
 
@@ -319,7 +319,7 @@ fn check_operands<'a>(inner: &ArgMatches<'a>) -> Option<Operands<'a>>
     ensures { option_map line_of result ≡ named_check (rows_of (found_of inner.now)) }
 {
     Some(Operands::Check {
-        file: value_of(inner, "FILE")?,
+        file: first_of(inner, "FILE")?,
     })
 }
 
@@ -327,7 +327,7 @@ fn status_operands<'a>(inner: &ArgMatches<'a>) -> Option<Operands<'a>>
     ensures { option_map line_of result ≡ named_status (rows_of (found_of inner.now)) }
 {
     Some(Operands::Status {
-        file: value_of(inner, "FILE")?,
+        file: first_of(inner, "FILE")?,
     })
 }
 
@@ -394,7 +394,7 @@ fn trial_request<'a>(
     path: &'a str,
     policy: Option<&'a str>,
 ) -> Result<Request<'a>, AllocError>
-    ensures { IfOk result (λ request. asked_in request ≡ Some (trial_asked dimension.now path.now (text_of policy.entry))) }
+    ensures { IfOk result (λ request. asked_in request ≡ Some (trial_asked dimension.now path.now (optional_text policy.entry))) }
 {
     match Dim::from_word(dimension) {
         Some(dim) => Ok(Request::Task(Task::Trial { dim, path, policy })),
@@ -439,7 +439,7 @@ fn explain_request<'a>(
     kind: &str,
     path: Option<&'a str>,
 ) -> Result<Request<'a>, AllocError>
-    ensures { IfOk result (λ request. asked_in request ≡ Some (explain_asked file.now kind.now (text_of path.entry))) }
+    ensures { IfOk result (λ request. asked_in request ≡ Some (explain_asked file.now kind.now (optional_text path.entry))) }
 {
     match CommandKind::from_word(kind) {
         Some(kind) => Ok(Request::Task(Task::Explain { file, kind, path })),
@@ -466,8 +466,8 @@ fn report_request<'a>(alloc: Global, words: ReportOperands<'a>) -> Result<Reques
 }
 
 /// The table of a name.
-fn table_of_word(name: &str) -> Option<Table>
-    ensures { result ≡ table_named name.now }
+fn table_of_name(name: &str) -> Option<Table>
+    ensures { result ≡ table_of_name name.now }
 {
     Table::from_name(name)
 }
@@ -476,7 +476,7 @@ fn table_of_word(name: &str) -> Option<Table>
 fn dump_request<'a>(alloc: Global, file: &'a str, table: &str) -> Result<Request<'a>, AllocError>
     ensures { IfOk result (λ request. asked_in request ≡ Some (dump_asked file.now table.now)) }
 {
-    match table_of_word(table) {
+    match table_of_name(table) {
         Some(table) => Ok(Request::Task(Task::Dump { file, table })),
         None => wrong_word(alloc, "TABLE", table, TABLES),
     }

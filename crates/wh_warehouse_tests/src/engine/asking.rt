@@ -12,7 +12,7 @@ use std::fmt::Write;
 use wh_batch::Kind;
 use wh_day::Value;
 use wh_engine::{
-    Command, CommandKind, Counts, Engine, Fault, InitFault, OpenFault, Receipt, Refused, Reply,
+    Command, CommandKind, Counts, Engine, Fault, InitFault, OpenFault, Receipt, Refusal, Reply,
     Verdict,
 };
 use wh_policy::{Dim, Policy};
@@ -147,9 +147,9 @@ fn push_receipt(out: &mut String, word: &str, receipt: Receipt) -> Result<(), Al
 }
 
 /// A fault of a batch stands with the number of its record.
-fn push_refusal(out: &mut String, why: Refused) -> Result<(), AllocError> {
+fn push_refusal(out: &mut String, why: Refusal) -> Result<(), AllocError> {
     match why {
-        Refused::Batch(fault) => {
+        Refusal::Batch(fault) => {
             let kind = fault.kind;
             write!(out, "refused: {kind:?} at ")?;
             push_number(out, fault.number as u64)?;

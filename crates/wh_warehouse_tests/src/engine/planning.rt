@@ -19,8 +19,8 @@ use std::alloc::{AllocError, Global};
 use wh_day::{Day, NaturalKey, Value, Values};
 use wh_engine::{write_edits, write_making};
 use wh_history::{Change, Changes, DimensionShape, Edit, Member, Profiles};
-use wh_plan::new_rows::{new_changes, new_members, rows_of_members};
-use wh_plan::reading::{command_of, last_member, stored_changes, stored_member, stored_rows};
+use wh_plan::new_rows::{new_change_rows, new_member_rows, rows_of_members};
+use wh_plan::reading::{command_with, last_member, stored_changes, stored_member, stored_rows};
 use wh_plan::{Edits, FactEdit, Terms, plan_batch};
 use wh_policy::{Dim, DimensionRecord, Format, Policy};
 use wh_rows::tables::{Calendar, Product, Profile};
@@ -123,7 +123,7 @@ fn push_count(
 /// The row of a command, by its id.
 fn find(alloc: Global, tables: &mut InMemory, id: &str, out: &mut String) -> Result<(), Trouble> {
     let id = Value::new(alloc, id)?;
-    match command_of(tables, alloc, &id)? {
+    match command_with(tables, alloc, &id)? {
         Some(row) => Ok(push_row(out, Table::Command, &row)?),
         None => Err(Trouble),
     }
@@ -237,7 +237,7 @@ fn touched(alloc: Global, handed: &str) -> Result<Vec<Member>, Trouble> {
 
 fn push_members(alloc: Global, given: &str, handed: &str, out: &mut String) -> Result<(), Trouble> {
     let members = touched(alloc, handed)?;
-    let rows = new_members(alloc, Dim::Product, number(given)?, &members)?;
+    let rows = new_member_rows(alloc, Dim::Product, number(given)?, &members)?;
     Ok(push_rows(out, Table::Member, &rows)?)
 }
 
@@ -245,7 +245,7 @@ fn push_changes(alloc: Global, words: &str, handed: &str, out: &mut String) -> R
     let (command, record) = parted(words, ' ');
     let records = records_of(alloc, record)?;
     let members = touched(alloc, handed)?;
-    let rows = new_changes(alloc, Dim::Product, number(command)?, &members, &records)?;
+    let rows = new_change_rows(alloc, Dim::Product, number(command)?, &members, &records)?;
     Ok(push_rows(out, Table::Change, &rows)?)
 }
 

@@ -12,7 +12,7 @@ use crate::trouble::Trouble;
 use crate::words::number;
 use std::alloc::{AllocError, Global};
 use wh_batch::{BatchFault, FaultKind};
-use wh_engine::{Counts, Fault, InitFault, Limit, OpenFault, Receipt, Refused, Reply};
+use wh_engine::{Counts, Fault, InitFault, Limit, OpenFault, Receipt, Refusal, Reply};
 use wh_policy::PolicyFault;
 use wh_program::{
     Answer, made, making_answer, opening_answer, room_for_line, room_for_receipt, sent_answer,
@@ -126,25 +126,25 @@ fn fault(words: &str) -> Result<Fault, Trouble> {
     }
 }
 
-fn refused(word: &str, rest: &str) -> Result<Refused, Trouble> {
+fn refused(word: &str, rest: &str) -> Result<Refusal, Trouble> {
     match word {
-        "BadId" => Ok(Refused::BadId),
-        "Reused" => Ok(Refused::Reused),
-        "BadDay" => Ok(Refused::Batch(BatchFault {
+        "BadId" => Ok(Refusal::BadId),
+        "Reused" => Ok(Refusal::Reused),
+        "BadDay" => Ok(Refusal::Batch(BatchFault {
             kind: FaultKind::BadDay,
             number: record(rest)?,
         })),
-        "BadYears" => Ok(Refused::Policy(PolicyFault::BadYears)),
-        "Unfit" => Ok(Refused::Unfit),
-        "Upgraded" => Ok(Refused::Upgraded),
-        "NameTaken" => Ok(Refused::NameTaken),
-        "LineThere" => Ok(Refused::LineThere(number(rest)?)),
-        "NoLine" => Ok(Refused::NoLine(number(rest)?)),
-        "NotInFormat" => Ok(Refused::Batch(BatchFault {
+        "BadYears" => Ok(Refusal::Policy(PolicyFault::BadYears)),
+        "Unfit" => Ok(Refusal::Unfit),
+        "Upgraded" => Ok(Refusal::Upgraded),
+        "NameTaken" => Ok(Refusal::NameTaken),
+        "LineThere" => Ok(Refusal::LineThere(number(rest)?)),
+        "NoLine" => Ok(Refusal::NoLine(number(rest)?)),
+        "NotInFormat" => Ok(Refusal::Batch(BatchFault {
             kind: FaultKind::NotInFormat,
             number: record(rest)?,
         })),
-        "Full" => Ok(Refused::Full(limit(rest)?)),
+        "Full" => Ok(Refusal::Full(limit(rest)?)),
         _ => Err(Trouble),
     }
 }

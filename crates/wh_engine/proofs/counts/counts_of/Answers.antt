@@ -29,7 +29,7 @@ returns-in_err-products-clause-counts g c clean t rests limits commands are acce
 pub returns-in_err-stores-clause-counts : goal.returns-in_err-stores-clause-counts
 returns-in_err-stores-clause-counts g c clean t rests limits commands are accepted same =
     let clean4 = c.in_err-stores.ensures.reads.spares.clean clean in
-    let clean3 = c.members_of.ensures.reads.spares.clean clean4 in
+    let clean3 = c.member_count.ensures.reads.spares.clean clean4 in
     let clean2 = c.count_facts.ensures.reads.clean clean3 in
     let clean1 = c.count-2.ensures.reads.clean clean2 in
     let rests1 = c.in_ok-commands.ensures.reads.same clean1 t rests tt in
@@ -42,8 +42,8 @@ returns-in_err-stores-clause-counts g c clean t rests limits commands are accept
 pub returns-in_err-customers-clause-counts : goal.returns-in_err-customers-clause-counts
 returns-in_err-customers-clause-counts g c clean t rests limits commands are accepted same =
     let clean5 = c.in_err-customers.ensures.reads.spares.clean clean in
-    let clean4 = c.members_of-2.ensures.reads.spares.clean clean5 in
-    let clean3 = c.members_of.ensures.reads.spares.clean clean4 in
+    let clean4 = c.member_count-2.ensures.reads.spares.clean clean5 in
+    let clean3 = c.member_count.ensures.reads.spares.clean clean4 in
     let clean2 = c.count_facts.ensures.reads.clean clean3 in
     let clean1 = c.count-2.ensures.reads.clean clean2 in
     let rests1 = c.in_ok-commands.ensures.reads.same clean1 t rests tt in
@@ -56,9 +56,9 @@ returns-in_err-customers-clause-counts g c clean t rests limits commands are acc
 
 pub returns-clause-counts : goal.returns-clause-counts
 returns-clause-counts g c clean t rests limits commands are accepted same =
-    let clean5 = c.members_of-3.ensures.reads.spares.clean clean in
-    let clean4 = c.members_of-2.ensures.reads.spares.clean clean5 in
-    let clean3 = c.members_of.ensures.reads.spares.clean clean4 in
+    let clean5 = c.member_count-3.ensures.reads.spares.clean clean in
+    let clean4 = c.member_count-2.ensures.reads.spares.clean clean5 in
+    let clean3 = c.member_count.ensures.reads.spares.clean clean4 in
     let clean2 = c.count_facts.ensures.reads.clean clean3 in
     let clean1 = c.count-2.ensures.reads.clean clean2 in
     let rests1 = c.in_ok-commands.ensures.reads.same clean1 t rests tt in
@@ -72,9 +72,9 @@ returns-clause-counts g c clean t rests limits commands are accepted same =
 
 pub returns-clause-stored : goal.returns-clause-stored
 returns-clause-stored g c clean stored rests =
-    let clean5 = c.members_of-3.ensures.reads.spares.clean clean in
-    let clean4 = c.members_of-2.ensures.reads.spares.clean clean5 in
-    let clean3 = c.members_of.ensures.reads.spares.clean clean4 in
+    let clean5 = c.member_count-3.ensures.reads.spares.clean clean in
+    let clean4 = c.member_count-2.ensures.reads.spares.clean clean5 in
+    let clean3 = c.member_count.ensures.reads.spares.clean clean4 in
     let clean2 = c.count_facts.ensures.reads.clean clean3 in
     let clean1 = c.count-2.ensures.reads.clean clean2 in
     let rests1 = c.in_ok-commands.ensures.reads.rests clean1 stored rests tt in

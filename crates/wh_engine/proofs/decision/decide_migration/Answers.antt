@@ -1,7 +1,7 @@
 use Rattle.std.proofs.Common.{◌≡◌, ◌∙◌, ℕ, sym, ap, refl, Ok, Some}
 use Rattle.wh_policy.proofs.FileLaws.{policies_are_sound}
 use Rattle.wh_history.specs.Accepted.{Governs}
-use Rattle.wh_admission.specs.Admission.{current_policy, accepted_as, answer, number_for, policy_told}
+use Rattle.wh_admission.specs.Admission.{current_policy, accepted_as, answer, number_for, judged_policy}
 use Rattle.wh_engine.specs.Decided.{Decides}
 use Rattle.wh_engine.proofs.Decisions.{judged_ok, judged_err, number_refused, policy_content, command_accepted, list_accepted, own_row, policy_in_force}
 use Rattle.wh_admission.proofs.Migrated.{policy_taken}
@@ -16,8 +16,8 @@ returns-clause-decided g c clean commands t held rests kind good new =
     let number = c.in-Ok.number in
     let content = Governs newer in
     let before = c.plan_migration.ensures.reads.clean clean in
-    let found = judged_ok (λ newer told. newer ≡ told) newer (policy_told (current_policy commands) command.bytes) (rw (held.policy, c.as_slice.ensures) at c.in_ok-newer.ensures.read) in
-    let told : policy_told (current_policy commands) command.bytes ≡ Ok newer = found.1 ∙ ap Ok (sym found.2) in
+    let found = judged_ok (λ newer told. newer ≡ told) newer (judged_policy (current_policy commands) command.bytes) (rw (held.policy, c.as_slice.ensures) at c.in_ok-newer.ensures.read) in
+    let told : judged_policy (current_policy commands) command.bytes ≡ Ok newer = found.1 ∙ ap Ok (sym found.2) in
     let taken = policy_taken (current_policy commands) command.bytes newer told in
     let read = policy_content limits commands command good new kind newer told in
     let numbered = judged_ok (λ number next. number ≡ next) number (number_for limits commands content) (c.in-Ok.ensures.number before t rests commands held.are held.accepted content refl refl refl refl) in
@@ -34,8 +34,8 @@ returns-in-Err-clause-decided g c clean commands t held rests kind good new =
     let command = c.args.command.now in
     let newer = c.in_ok-newer.newer in
     let content = Governs newer in
-    let found = judged_ok (λ newer told. newer ≡ told) newer (policy_told (current_policy commands) command.bytes) (rw (held.policy, c.as_slice.ensures) at c.in_ok-newer.ensures.read) in
-    let told : policy_told (current_policy commands) command.bytes ≡ Ok newer = found.1 ∙ ap Ok (sym found.2) in
+    let found = judged_ok (λ newer told. newer ≡ told) newer (judged_policy (current_policy commands) command.bytes) (rw (held.policy, c.as_slice.ensures) at c.in_ok-newer.ensures.read) in
+    let told : judged_policy (current_policy commands) command.bytes ≡ Ok newer = found.1 ∙ ap Ok (sym found.2) in
     let read = policy_content limits commands command good new kind newer told in
     let judged = c.in-Err.ensures.number clean t rests commands held.are held.accepted content refl refl refl refl in
     judged_err (λ (number next : ℕ). number ≡ next) (Decides commands command) c.in-Err.fault (number_for limits commands content) (answer limits commands command) judged

@@ -1,7 +1,7 @@
 use Rattle.std.proofs.Common.{◌≡◌, ◌∙◌, ℕ, sym, ap, subst, refl, Ok, Some, length}
 use Rattle.wh_policy.specs.Written.{IsSound}
 use Rattle.wh_history.specs.Accepted.{Describes}
-use Rattle.wh_admission.specs.Admission.{current_policy, accepted_as, answer, number_for, records_told}
+use Rattle.wh_admission.specs.Admission.{current_policy, accepted_as, answer, number_for, judged_records}
 use Rattle.wh_engine.specs.Decided.{Decides, row_of_command}
 use Rattle.wh_engine.proofs.Decisions.{judged_ok, judged_err, number_refused, records_content, command_accepted, list_accepted, own_row, policy_in_force, sound_in_force}
 use Rattle.wh_engine.proofs.decision.decide_records.Goals as goal
@@ -15,8 +15,8 @@ returns-clause-decided g c clean commands t held rests kind good new =
     let number = c.in-Ok.number in
     let content = Describes dim records in
     let before = c.plan_batch.ensures.reads.clean clean in
-    let found = judged_ok (λ records told. records ≡ told) records (records_told dim (current_policy commands) command.bytes) (rw (held.policy, c.as_slice.ensures) at c.in_ok-records.ensures.read) in
-    let told : records_told dim (current_policy commands) command.bytes ≡ Ok records = found.1 ∙ ap Ok (sym found.2) in
+    let found = judged_ok (λ records told. records ≡ told) records (judged_records dim (current_policy commands) command.bytes) (rw (held.policy, c.as_slice.ensures) at c.in_ok-records.ensures.read) in
+    let told : judged_records dim (current_policy commands) command.bytes ≡ Ok records = found.1 ∙ ap Ok (sym found.2) in
     let read = records_content limits commands command good new dim kind records told in
     let count : length c.as_slice-2.result.now ≡ length records = ap length c.as_slice-2.ensures in
     let numbered = judged_ok (λ number next. number ≡ next) number (number_for limits commands content) (c.in-Ok.ensures.number before t rests commands held.are held.accepted content refl refl (sym count) refl) in
@@ -34,8 +34,8 @@ returns-in-Err-clause-decided g c clean commands t held rests kind good new =
     let dim = c.args.dim in
     let records = c.in_ok-records.records in
     let content = Describes dim records in
-    let found = judged_ok (λ records told. records ≡ told) records (records_told dim (current_policy commands) command.bytes) (rw (held.policy, c.as_slice.ensures) at c.in_ok-records.ensures.read) in
-    let told : records_told dim (current_policy commands) command.bytes ≡ Ok records = found.1 ∙ ap Ok (sym found.2) in
+    let found = judged_ok (λ records told. records ≡ told) records (judged_records dim (current_policy commands) command.bytes) (rw (held.policy, c.as_slice.ensures) at c.in_ok-records.ensures.read) in
+    let told : judged_records dim (current_policy commands) command.bytes ≡ Ok records = found.1 ∙ ap Ok (sym found.2) in
     let read = records_content limits commands command good new dim kind records told in
     let count : length c.as_slice-2.result.now ≡ length records = ap length c.as_slice-2.ensures in
     let judged = c.in-Err.ensures.number clean t rests commands held.are held.accepted content refl refl (sym count) refl in

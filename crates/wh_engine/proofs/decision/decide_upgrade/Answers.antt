@@ -7,7 +7,7 @@ use Rattle.wh_sql.specs.Present.{is_second_taken}
 use Rattle.wh_sql.proofs.Worked.{second_taken}
 use Rattle.wh_store.specs.Reads.{state_of}
 use Rattle.wh_admission.specs.Admission.{accepted_as, answer, number_for}
-use Rattle.wh_admission.specs.declared.command.Refused.TheVariants.{Upgraded}
+use Rattle.wh_admission.specs.declared.command.Refusal.TheVariants.{Upgraded}
 use Rattle.wh_engine.specs.Decided.{Decides}
 use Rattle.wh_engine.proofs.Decisions.{no_records, upgrade_refused, upgrade_again, upgrade_numbered, judged_ok, judged_err, number_refused, upgrade_content, command_accepted, own_row}
 use Rattle.wh_engine.proofs.Scanning.{failed_after}

@@ -1,6 +1,6 @@
 use Rattle.std.proofs.Common.{[], ◌∷◌, sym, ap, subst, ◌∙◌}
 use Rattle.sqlite.specs.Files.{over_files}
-use Rattle.wh_policy.specs.Policy.{policy_at}
+use Rattle.wh_policy.specs.Policy.{read_policy}
 use Rattle.wh_model.specs.Sound.{making_of}
 use Rattle.wh_store.specs.Reads.{state_of}
 use Rattle.wh_engine.specs.Answered.{IsReady}
@@ -22,4 +22,4 @@ returns-in-Ok c =
 pub returns-in-Err-Policy-default : goal.returns-in-Err-Policy-default
 returns-in-Err-Policy-default c =
     let refused = rw c.in-Err-Policy-default.field-0-0-is at c.in-Err-Policy-default.ensures.refused in
-    no_policy c.args.limits c.args.row.now c.in-Err-Policy-default.field-0-0-0 (ap policy_at (sym c.as_slice.ensures) ∙ refused)
+    no_policy c.args.limits c.args.row.now c.in-Err-Policy-default.field-0-0-0 (ap read_policy (sym c.as_slice.ensures) ∙ refused)

@@ -1,5 +1,5 @@
 use Rattle.std.proofs.Common.{◌≡◌, ◌∙◌}
-use Rattle.wh_policy.specs.Policy.{types_of}
+use Rattle.wh_policy.specs.Policy.{policy_types}
 use Rattle.wh_history.proofs.Trials.{made_is}
 use Rattle.wh_history.proofs.trial.trial_table.Goals as goal
 
@@ -7,7 +7,7 @@ pub returns : goal.returns
 returns c =
     let policy = c.args.policy.now in
     let dim = c.args.dim in
-    let kinds = types_of policy dim in
+    let kinds = policy_types policy dim in
     let first : c.deref.result.now ≡ kinds = c.deref.ensures.value ∙ c.in_ok-types.ensures in
     let second : c.deref-2.result.now ≡ kinds = c.deref-2.ensures.value ∙ c.in_ok-types.ensures in
     let third : c.deref-3.result.now ≡ kinds = c.deref-3.ensures.value ∙ c.in_ok-types.ensures in

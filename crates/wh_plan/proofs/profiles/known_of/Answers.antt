@@ -1,7 +1,7 @@
 use Rattle.std.proofs.Common.{◌≡◌, [], List, ap, sym, ◌∙◌, subst}
 use Rattle.std.specs.List.{AllByRecursion}
 use Rattle.std.proofs.lemmas.Result.{IfOk-weaker}
-use Rattle.wh_policy.specs.Policy.{types_of}
+use Rattle.wh_policy.specs.Policy.{policy_types}
 use Rattle.wh_policy.specs.declared.attribute.AttributeType.{AttributeType}
 use Rattle.wh_policy.specs.declared.attribute.Dim.{Dim}
 use Rattle.wh_policy.specs.declared.attribute.Dim.TheVariants.{Customer}
@@ -15,7 +15,7 @@ pub returns-in-Customer-clause-enough : goal.returns-in-Customer-clause-enough
 returns-in-Customer-clause-enough g c clean limits commands t are at typed =
     let members = c.args.members.now in
     let kinds = c.args.types.now in
-    let are_kinds : kinds ≡ types_of typed.policy Customer = typed.are ∙ ap (types_of typed.policy) c.in-Customer.is in
+    let are_kinds : kinds ≡ policy_types typed.policy Customer = typed.are ∙ ap (policy_types typed.policy) c.in-Customer.is in
     IfOk-weaker c.known_of_customers.result _ _
     (λ known made.
     subst (λ (d : Dim). AllByRecursion (KnowsEnough d kinds (number_in known) (profiles_of commands)) members) (sym c.in-Customer.is)

@@ -1,6 +1,6 @@
 use Rattle.std.proofs.Common.{◌≡◌, ◌+◌, ◌++◌, ◌∷◌, [], List, suc, map, length, sym, ◌∙◌, ap, subst, arith}
 use Rattle.std.specs.List.{AllByRecursion}
-use Rattle.wh_policy.specs.Policy.{types_of}
+use Rattle.wh_policy.specs.Policy.{policy_types}
 use Rattle.wh_policy.specs.declared.attribute.AttributeType.{AttributeType}
 use Rattle.wh_policy.specs.declared.attribute.Dim.TheVariants.{Customer}
 use Rattle.wh_history.specs.Accepted.{profiles_of}
@@ -16,7 +16,7 @@ returns-clause-learned g c clean limits commands t are at sent accepted is typed
     let policy = typed.policy in
     let records = c.args.batch.now.records.now in
     let members = c.args.touched.now in
-    let kinds = types_of policy Customer in
+    let kinds = policy_types policy Customer in
     let kept = number_kept t.profile in
     let before = c.in_ok-given.ensures.reads.clean clean in
     let told = c.in_ok-told.ensures ∙ ap (λ ks. with_combinations [] (told_of ks records)) typed.are in

@@ -20,7 +20,7 @@ returns-clause-put g c clean before made at valid =
     let params = bind_rows layout rows in
     let text = c.insert_text.result.now in
     let told = c.insert_sixteen.ensures in
-    let bound = c.bound_rows.ensures.ok in
+    let bound = c.bind_rows.ensures.ok in
     let survives = told.survives params bound in
     let old = state g.S.Store c.args.conn.now in
     let new = state g.S.Store c.insert_sixteen.new.conn in
@@ -35,13 +35,13 @@ pub returns-clause-refused : goal.returns-clause-refused
 returns-clause-refused g c clean =
     let params = bind_rows g.T.StoredTable.layout (rows_of c.args.rows.now) in
     let refused = rw c.insert_text.ensures at c.insert_sixteen.ensures.refused in
-    not_put _ g.T.BatchedTable.insert_means params (length c.args.rows.now) _ refl (state g.S.Store c.args.conn.now) (state g.S.Store c.insert_sixteen.new.conn) c.insert_sixteen.result (refused clean params c.bound_rows.ensures.ok)
+    not_put _ g.T.BatchedTable.insert_means params (length c.args.rows.now) _ refl (state g.S.Store c.args.conn.now) (state g.S.Store c.insert_sixteen.new.conn) c.insert_sixteen.result (refused clean params c.bind_rows.ensures.ok)
 
 pub returns-clause-left : goal.returns-clause-left
 returns-clause-left g c clean before made at =
     let layout = g.T.StoredTable.layout in
     let params = bind_rows layout (rows_of c.args.rows.now) in
-    insert_leaves _ params (state g.S.Store c.args.conn.now) (state g.S.Store c.insert_sixteen.new.conn) before made at clean (c.insert_sixteen.ensures.survives params c.bound_rows.ensures.ok) layout
+    insert_leaves _ params (state g.S.Store c.args.conn.now) (state g.S.Store c.insert_sixteen.new.conn) before made at clean (c.insert_sixteen.ensures.survives params c.bind_rows.ensures.ok) layout
     (is_there g.T.KeyedTable.name made.format) (rw c.insert_text.ensures (g.met.T.BatchedTable.inserts made.format))
 
 pub returns-clause-cause : goal.returns-clause-cause
@@ -50,4 +50,4 @@ returns-clause-cause g c clean inside valid =
     let rows = rows_of c.args.rows.now in
     let params = bind_rows layout rows in
     let cause = rw c.insert_text.ensures at c.insert_sixteen.ensures.cause in
-    bound_or_refused layout.is_valid rows valid g.T.BatchedTable.insert_means params (state g.S.Store c.args.conn.now) (state g.S.Store c.insert_sixteen.new.conn) c.bound_rows.result c.bound_rows.ensures.err c.insert_sixteen.result (cause clean inside params c.bound_rows.ensures.ok)
+    bound_or_refused layout.is_valid rows valid g.T.BatchedTable.insert_means params (state g.S.Store c.args.conn.now) (state g.S.Store c.insert_sixteen.new.conn) c.bind_rows.result c.bind_rows.ensures.err c.insert_sixteen.result (cause clean inside params c.bind_rows.ensures.ok)

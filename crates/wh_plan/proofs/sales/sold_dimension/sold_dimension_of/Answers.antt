@@ -6,7 +6,7 @@ use Rattle.wh_history.specs.Accepted.{members, profiles_of, types_in}
 use Rattle.wh_history.specs.Known.{number_in, KnowsEnough}
 use Rattle.wh_history.specs.Profiles.{profile_number}
 use Rattle.wh_history.specs.Shapes.{RenderedMember, shape_after, rendered_in, shown}
-use Rattle.wh_history.specs.declared.dimension.Rendered.{Rendered}
+use Rattle.wh_history.specs.declared.dimension.RenderedRows.{RenderedRows}
 use Rattle.wh_history.specs.declared.member.Member.{Member}
 use Rattle.wh_history.specs.declared.plan.Edit.TheVariants.{Put}
 use Rattle.wh_plan.specs.NewRows.{new_member}
@@ -32,11 +32,11 @@ returns-clause-sold c commands sent is typed enough before mentioned =
     let count = length (members dim commands) in
     record {
       keys = keys_planned dim kinds number ms sales (map shown c.deref.result.now) c.in_ok-keys_of_sales.field-0.items
-          c.in_ok-keys_of_sales.ensures.keys (ap (λ (rs : List Rendered). map shown rs) c.deref.ensures.value ∙ list) after mentioned types enough_after;
-      members = members_sold dim commands sent sales is c.in_ok-new_members.field-0.items
-          (c.in_ok-new_members.ensures.rows ∙ ap (λ n. filter_map (new_member dim n) ms) before ∙ ap (filter_map (new_member dim count)) mentioned);
+          c.in_ok-keys_of_sales.ensures.keys (ap (λ (rs : List RenderedRows). map shown rs) c.deref.ensures.value ∙ list) after mentioned types enough_after;
+      members = members_sold dim commands sent sales is c.in_ok-new_member_rows.field-0.items
+          (c.in_ok-new_member_rows.ensures.rows ∙ ap (λ n. filter_map (new_member dim n) ms) before ∙ ap (filter_map (new_member dim count)) mentioned);
       rows = c.in_ok-placeholders.ensures
-          ∙ ap (λ (rs : List Rendered). map Put (filter_map (placeholder c.args.members_before) (map shown rs))) c.deref-2.ensures.value
+          ∙ ap (λ (rs : List RenderedRows). map Put (filter_map (placeholder c.args.members_before) (map shown rs))) c.deref-2.ensures.value
           ∙ ap (λ (rs : List RenderedMember). map Put (filter_map (placeholder c.args.members_before) rs)) list
           ∙ ap (map Put) (placeholders_known dim kinds number (profiles_of after) c.args.members_before ms enough_after)
           ∙ ap (λ (ks : List AttributeType). map Put (filter_map (placeholder c.args.members_before) (map (rendered_in (record { dim = dim; kinds = ks; number = all })) ms))) types

@@ -16,8 +16,8 @@ returns-in-Ok-clause-reported g c = λ clean limits commands ready.
     let words = report_words c.args.asked.now in
     let is = rw (c.policy-policy.ensures, c.as_bytes-from.ensures.value, c.as_bytes-to.ensures.value) at c.in-Ok.ensures in
     let under = ap (λ (s : Session). asked_under s.policy words) ready.session_is in
-    reported words limits commands c.worked_answer.result c.report.new.engine.session (state_of g.S.Store c.report.new.engine.tables)
-    c.in-Ok.request c.report.result (sym under ∙ is) (c.report.ensures.reported clean limits commands ready) c.worked_answer.ensures
+    reported words limits commands c.report_answer.result c.report.new.engine.session (state_of g.S.Store c.report.new.engine.tables)
+    c.in-Ok.request c.report.result (sym under ∙ is) (c.report.ensures.reported clean limits commands ready) c.report_answer.ensures
     (c.report.ensures.reads.serves clean limits commands ready)
 
 pub returns-in-Err-Fault-clause-reported : goal.returns-in-Err-Fault-clause-reported

@@ -10,18 +10,18 @@ use Rattle.wh_program.proofs.words.command.matches_of.Goals as goal
 pub returns-clause-ok : goal.returns-clause-ok
 returns-clause-ok g c =
     let parse = c.try_get_matches_from in
-    let program-is : app_of c.in_ok-program_command.field-0 ≡ program_app = c.in_ok-program_command.ensures in
+    let program-is : app_of c.in_ok-program_app.field-0 ≡ program_app = c.in_ok-program_app.ensures in
     IfOk-weaker parse.result _ _ (λ matches h. (h (ap is_simple program-is ∙ simple)).1 ∙ ap (λ (a : App). subcommand_of a (map g.S.AsStr.text c.args.words.now)) program-is) parse.ensures.matches
 
 pub returns-clause-err : goal.returns-clause-err
 returns-clause-err g c = λ taken.
     let parse = c.try_get_matches_from in
-    let program-is : app_of c.in_ok-program_command.field-0 ≡ program_app = c.in_ok-program_command.ensures in
+    let program-is : app_of c.in_ok-program_app.field-0 ≡ program_app = c.in_ok-program_app.ensures in
     IfErr-weaker parse.result _ _ (λ e h. h (ap (λ (a : App). takes a (map g.S.AsStr.text c.args.words.now)) program-is ∙ taken)) parse.ensures.passes
 
 pub returns-clause-faults : goal.returns-clause-faults
 unfolding faults_in
 returns-clause-faults g c =
     let parse = c.try_get_matches_from in
-    let program-is : app_of c.in_ok-program_command.field-0 ≡ program_app = c.in_ok-program_command.ensures in
+    let program-is : app_of c.in_ok-program_app.field-0 ≡ program_app = c.in_ok-program_app.ensures in
     subst (λ a. FailsBy (fault_of a (map g.S.AsStr.text c.args.words.now)) parse.result) program-is (parse.ensures.kinds (ap is_simple_and_free program-is ∙ free))

@@ -1,11 +1,11 @@
 use Rattle.wh_policy.specs.declared.attribute.Dim.TheVariants.{Product}
 use Rattle.wh_rows.specs.Rows.{encode_dimension, is_dimension}
-use Rattle.wh_rows.specs.Stored.{dimension_of}
+use Rattle.wh_rows.specs.Stored.{read_dimension}
 use Rattle.wh_rows.proofs.Exact.{read_ok, read_err, dimension_sound, dimension_complete}
 use Rattle.wh_rows.proofs.tables.ProductStoredTable.read.Goals as goal
 
 pub returns-clause-ok : goal.returns-clause-ok
-returns-clause-ok c = read_ok (dimension_of Product) encode_dimension (is_dimension Product) (dimension_sound Product) (dimension_complete Product) c.args.row.now c.read_dimension.result c.read_dimension.ensures
+returns-clause-ok c = read_ok (read_dimension Product) encode_dimension (is_dimension Product) (dimension_sound Product) (dimension_complete Product) c.args.row.now c.read_dimension.result c.read_dimension.ensures
 
 pub returns-clause-err : goal.returns-clause-err
-returns-clause-err c = read_err (dimension_of Product) encode_dimension (is_dimension Product) (dimension_sound Product) (dimension_complete Product) c.args.row.now c.read_dimension.result c.read_dimension.ensures
+returns-clause-err c = read_err (read_dimension Product) encode_dimension (is_dimension Product) (dimension_sound Product) (dimension_complete Product) c.args.row.now c.read_dimension.result c.read_dimension.ensures

@@ -1,7 +1,0 @@
-use Rattle.wh_report.proofs.Lines.{lookup_by_text}
-use Rattle.wh_report.proofs.summary.figures_of.Goals as goal
-
-pub returns : goal.returns
-returns c =
-    let found = lookup_by_text c.args.label.now c.args.lines.now.entries in
-    cc
