@@ -5,7 +5,7 @@ use Rattle.wh_history.specs.Accepted.{Accepted}
 use Rattle.wh_history.specs.Tables.{Limits}
 use Rattle.wh_rows.specs.AtRest.{IsAtRest, Leaves}
 use Rattle.wh_rows.specs.Tables.{Tables}
-use Rattle.wh_admission.specs.declared.command.Refusal.{Refusal as Refusal}
+use Rattle.wh_admission.specs.declared.command.Refusal.{Refusal}
 use Rattle.wh_engine.specs.Answered.{IsReady, IsLeft, IsLeftUnnoted}
 use Rattle.wh_engine.specs.Faults.{IsServed, Judges, stops}
 use Rattle.wh_engine.specs.Outcome.{Left, Outcome}

@@ -15,7 +15,7 @@ use Rattle.wh_admission.specs.Admission.{accepted_after, accepted_as, answer, an
 use Rattle.wh_admission.specs.Answers.{IsNew as IsNewCommand}
 use Rattle.wh_admission.specs.declared.command.Command.{Command}
 use Rattle.wh_admission.specs.declared.command.Receipt.{Receipt}
-use Rattle.wh_admission.specs.declared.command.Refusal.{Refusal as Refusal}
+use Rattle.wh_admission.specs.declared.command.Refusal.{Refusal}
 use Rattle.wh_admission.specs.declared.command.Reply.{Reply}
 use Rattle.wh_admission.specs.declared.command.Reply.TheVariants.{Accepted as Accepts}
 use Rattle.wh_admission.proofs.AnswersByCases.{none_has, none_found}

@@ -22,7 +22,7 @@ use Rattle.wh_engine.specs.Outcome.{Left, At, Between, Outcome}
 use Rattle.wh_admission.specs.Repeated.{IsKept}
 use Rattle.wh_admission.specs.declared.command.Command.{Command}
 use Rattle.wh_admission.specs.declared.command.Receipt.{Receipt}
-use Rattle.wh_admission.specs.declared.command.Refusal.{Refusal as Refusal}
+use Rattle.wh_admission.specs.declared.command.Refusal.{Refusal}
 use Rattle.wh_admission.specs.declared.command.Reply.{Reply}
 use Rattle.wh_admission.specs.declared.command.Reply.TheVariants as replies
 use Rattle.wh_engine.specs.declared.counts.Counts.{Counts}

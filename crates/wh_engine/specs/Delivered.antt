@@ -8,7 +8,7 @@ use Rattle.wh_rows.specs.Raw.{Stored, HasDamageIn}
 use Rattle.wh_admission.specs.Admission.{answer, accepted_after, accepted_after_all}
 use Rattle.wh_engine.specs.Answered.{IsReady, IsStopped, IsGoverned, IsFormatted, IsWritten}
 use Rattle.wh_admission.specs.declared.command.Command.{Command}
-use Rattle.wh_admission.specs.declared.command.Refusal.{Refusal as Refusal}
+use Rattle.wh_admission.specs.declared.command.Refusal.{Refusal}
 use Rattle.wh_admission.specs.declared.command.Reply.{Reply}
 use Rattle.wh_admission.specs.declared.command.Reply.TheVariants as replies
 use Rattle.wh_engine.specs.declared.fault.Fault.{Fault}

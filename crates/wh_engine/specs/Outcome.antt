@@ -1,7 +1,7 @@
 -- How a call on a warehouse ends, by its result.
 use Rattle.std.specs.Prelude.{List, Result, Ok, Err}
 use Rattle.wh_history.specs.Accepted.{Accepted}
-use Rattle.wh_admission.specs.declared.command.Refusal.{Refusal as Refusal}
+use Rattle.wh_admission.specs.declared.command.Refusal.{Refusal}
 use Rattle.wh_engine.specs.declared.fault.Fault.{Fault}
 use Rattle.wh_engine.specs.declared.fault.Fault.TheVariants.{Refused, Memory, Store}
 

@@ -11,7 +11,7 @@ use Rattle.wh_rows.specs.declared.table.Table.TheVariants as table
 use Rattle.wh_admission.specs.Admission.{answer, accepted_after}
 use Rattle.wh_admission.specs.Answers.{IsNew}
 use Rattle.wh_admission.specs.declared.command.Command.{Command}
-use Rattle.wh_admission.specs.declared.command.Refusal.{Refusal as Refusal}
+use Rattle.wh_admission.specs.declared.command.Refusal.{Refusal}
 use Rattle.wh_admission.specs.declared.command.Reply.{Reply}
 use Rattle.wh_admission.specs.declared.command.Reply.TheVariants.{Accepted as Accepts}
 use Rattle.wh_plan.specs.Edits.{AreEdits}

@@ -7,7 +7,7 @@ use Rattle.wh_admission.specs.Admission.{answer, accepted_after, accepted_after_
 use Rattle.wh_engine.specs.Answered.{IsReady, IsStopped}
 use Rattle.wh_admission.specs.declared.command.Command.{Command}
 use Rattle.wh_engine.specs.Delivered.{answers_to}
-use Rattle.wh_admission.specs.declared.command.Refusal.{Refusal as Refusal}
+use Rattle.wh_admission.specs.declared.command.Refusal.{Refusal}
 use Rattle.wh_admission.specs.declared.command.Receipt.{Receipt}
 use Rattle.wh_admission.specs.declared.command.Reply.{Reply}
 use Rattle.wh_engine.specs.declared.fault.Fault.{Fault}

@@ -17,7 +17,7 @@ use Rattle.wh_engine.specs.Answered.{AreTreesOf, IsReady}
 use Rattle.wh_engine.specs.Delivered.{AreAnswers}
 use Rattle.wh_engine.specs.Opened.{IsNotOpened, IsUnopened}
 use Rattle.wh_admission.specs.declared.command.Command.{Command}
-use Rattle.wh_admission.specs.declared.command.Refusal.{Refusal as Refusal}
+use Rattle.wh_admission.specs.declared.command.Refusal.{Refusal}
 use Rattle.wh_admission.specs.declared.command.Reply.{Reply}
 use Rattle.wh_engine.specs.declared.engine.Engine.{Engine}
 use Rattle.wh_engine.specs.declared.reopen.NotReopened.{NotReopened}

@@ -24,7 +24,7 @@ use Rattle.wh_engine.specs.Answered.{IsReady, IsLeft, IsAnswered, IsPlanOf, IsFo
 use Rattle.wh_engine.specs.Outcome.{Left, At, Between, Outcome}
 use Rattle.wh_engine.specs.Opened.{SessionIs, IsUnopened as UnopenedBy, IsNotOpened, IsNotMade, NothingIsWritten, LeavesMade}
 use Rattle.wh_admission.specs.declared.command.Command.{Command}
-use Rattle.wh_admission.specs.declared.command.Refusal.{Refusal as Refusal}
+use Rattle.wh_admission.specs.declared.command.Refusal.{Refusal}
 use Rattle.wh_admission.specs.declared.command.Reply.{Reply}
 use Rattle.wh_engine.specs.declared.counts.Counts.{Counts}
 use Rattle.wh_engine.specs.declared.fault.Fault.{Fault}

@@ -19,7 +19,7 @@ use crate::output::{print, print_answer, print_usage};
 use crate::visits::delivery::deliver;
 use crate::visits::dump::print_dump;
 use crate::visits::explain::explain;
-use crate::visits::report::answered_report;
+use crate::visits::report::visit_report;
 use crate::visits::reports::reports;
 use crate::visits::trial::trial;
 use crate::visits::verdict::check;
@@ -64,10 +64,7 @@ fn run_task<H: Host, W: Write>(alloc: Global, task: Task, host: &mut H, out: &mu
         Task::Explain { file, kind, path } => {
             print_answer(out, explain(alloc, file, kind, path, host))
         }
-        Task::Report { file, asked } => print_answer(
-            out,
-            answered_report(alloc, file, asked, host),
-        ),
+        Task::Report { file, asked } => print_answer(out, visit_report(alloc, file, asked, host)),
         Task::Reports { file, list } => print_answer(out, reports(alloc, file, list, host)),
         Task::Dump { file, table } => print_dump(alloc, file, table, host, out),
         Task::Check { file } => print_answer(out, check(alloc, file, host)),

@@ -53,7 +53,7 @@ impl Work for Reporting<'_> {
 }
 
 /// Tells what the warehouse in a file has sold.
-pub fn answered_report<H: Host>(
+pub fn visit_report<H: Host>(
     alloc: Global,
     file: &str,
     asked: AskedReport<'_>,
