@@ -12,7 +12,7 @@ use Rattle.wh_plan.proofs.by_natural.by_natural.Goals as goal
 pub loop-left-preserved : goal.loop-left-preserved
 loop-left-preserved g c =
     let list = c.args.list.now in
-    let name = g.T.Named.name in
+    let name = g.T.HasNatural.name in
     let i = c.loop-left.left - 1 in
     let within : i < length list = omega arith in
     let next : c.loop-left.left ≡ i + 1 = omega arith in

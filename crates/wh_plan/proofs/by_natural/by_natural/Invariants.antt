@@ -9,7 +9,7 @@ use Rattle.wh_plan.proofs.by_natural.by_natural.Given as goal
 abbrev pub invariant-loop-left : goal.invariant-loop-left
 invariant-loop-left g l = record {
   within : l.left ≤ length l.list;
-  found : (natural : List ℕ) → option_copied (get_by (λ k. slice_cmp nat_cmp natural k.now) l.found) ≡ find (λ x. bytes_eq (g.T.Named.name x) natural) (drop l.left l.list);
+  found : (natural : List ℕ) → option_copied (get_by (λ k. slice_cmp nat_cmp natural k.now) l.found) ≡ find (λ x. bytes_eq (g.T.HasNatural.name x) natural) (drop l.left l.list);
 }
 
 abbrev pub decreases-loop-left : goal.decreases-loop-left
