@@ -41,7 +41,7 @@ impl FieldText {
 /// The field of a row that is at fault.
 #[derive(Debug, Drop)]
 pub struct FaultyField {
-    /// Its place in the row, from 0: that of its column.
+    /// Its place in the row, from 0: its column's.
     pub place: usize,
     /// Its text; empty where the row ends before it.
     pub text: FieldText,

@@ -29,8 +29,8 @@ pub fn one_row_a_day()
     ensures current { (kinds : List AttributeType) (combinations : List (List (List ℕ))) (m : Member) → ChangesHaveDays m.changes → OneRowIsCurrent (rows kinds combinations m) }
 {}
 
-/// A member's rows begin on the first day of all, and on each recorded day at which a tracked value differs from that of the
-/// recorded day before it; on no other day.
+/// A member's rows begin on the first day of all, and on each recorded day at which a tracked value differs from its value on
+/// the recorded day before; on no other day.
 pub fn rows_begin_where_a_tracked_value_differs()
     ensures { RowsBeginWhereATrackedValueDiffers }
 {}
@@ -74,8 +74,8 @@ pub fn effective()
     ensures { (commands : List Accepted) (dim : Dim) (natural : List ℕ) (day : ℕ) → RecordsHaveDays commands → IsMember dim commands natural → is_day day ≡ true → IsEffective commands dim (durable_key dim commands natural) day (key_at commands dim day natural) }
 {}
 
-/// Each number of a dimension is that of one member's anchor, and what the table has under it, now and before
-/// later commands, is what that member's rows have. So the exact plan of a table is that of its members' rows.
+/// Each number of a dimension belongs to one member's anchor, and the table has under it, now and before later
+/// commands, what that member's rows have. So the exact plan of a table is its members' plans together.
 pub fn rows_by_member()
     ensures now { (dim : Dim) (commands : List Accepted) (key : ℕ) (a : Anchor) → at_place key (anchors dim commands) ≡ Some a → numbered_row commands dim key ≡ row_of key (member_rows commands dim a.natural) }
     ensures before { (dim : Dim) (old new : List Accepted) (key : ℕ) (a : Anchor) → RecordsHaveDays old → at_place key (anchors dim (old ++ new)) ≡ Some a → numbered_row old dim key ≡ row_of key (member_rows old dim a.natural) }

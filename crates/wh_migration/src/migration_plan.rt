@@ -82,7 +82,7 @@ fn with_own_row(
 }
 
 /// What a migration writes: its own row, and the edits of each table whose rows are others under the new policy, which fits
-/// that of the terms, the one in force. All members and all facts are read. The error is a read's: `Memory`, `Damaged` with the table
+/// the terms' policy, the one in force. All members and all facts are read. The error is a read's: `Memory`, `Damaged` with the table
 /// whose row is out of its type, or `Store`.
 pub fn plan_migration<S: Alter>(
     tables: &mut Tables<S>,

@@ -25,7 +25,7 @@ pub fn write_failed<W: Write>(out: &mut W) -> Status
     Status::Failed
 }
 
-/// Prints a text, and answers the status, or that of a failure where the writer fails.
+/// Prints a text, and answers its status, or `Failed` where the writer fails.
 pub fn print<W: Write>(out: &mut W, status: Status, text: &[u8]) -> Status
     ensures { Prints (W.contents out.old) (W.contents out.new) (status_code result) (record { status = status_code status; text = text.now }) }
 {

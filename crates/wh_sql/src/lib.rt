@@ -1,4 +1,4 @@
-//! The statements of the warehouse: each call runs one.
+//! The statements of the warehouse.
 #![tactic(auto)]
 
 mod batched;
