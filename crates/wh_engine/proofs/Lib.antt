@@ -1,5 +1,6 @@
 pub mod MadeCalendar
 pub mod MadeRows
+pub mod MadeMeta
 pub mod MadeTables
 pub mod MadeFirst
 pub mod MadePolicies
@@ -22,11 +23,6 @@ pub mod Nights
 pub mod DeliveredAgain
 pub mod Scanning
 pub mod PutFacts
-pub mod Followed
-pub mod Replicating
-pub mod Answering
-pub mod JudgedTables
-pub mod SoundTables
 pub mod DeliveredNights
 pub mod Repeating
 pub mod Keeping

@@ -1,19 +1,14 @@
 -- The tables of a warehouse that was just made are those of its one command.
-use Rattle.std.proofs.Common.{◌≡◌, ◌≢◌, inl, inr, ℕ, zero, suc, cond, List, [], ◌∷◌, Some, None, refl, sym, ◌∙◌, ap, subst, arith}
-use Rattle.std.specs.Prelude.{codes, pos, bytes_eq}
-use Rattle.std.specs.Cmp.Lexicographic.{slice_cmp, nat_list_cmp_total}
+use Rattle.std.proofs.Common.{◌≡◌, ◌≢◌, ℕ, zero, suc, cond, List, [], ◌∷◌, Some, None, refl, sym, ◌∙◌, ap, arith}
 use Rattle.std.specs.Cmp.{unsigned_tied}
 use Rattle.std.specs.FinMap.{FinMap, empty, insert, get, get-empty, get-insert}
 use Rattle.std.specs.Ordering.{nat_cmp}
-use Rattle.std.proofs.lemmas.Bool.{cases_Bool, ne_eqb, eq-eqb}
+use Rattle.std.proofs.lemmas.Bool.{ne_eqb, eq-eqb}
 use Rattle.std.proofs.lemmas.Cmp.{nat_cmp_total}
-use Rattle.std.proofs.lemmas.Map.Text.{is_eq-slice_cmp}
-use Rattle.std.proofs.lemmas.Slice.Eq.{bytes_eq-Decides}
 use Rattle.wh_day.specs.Value.{no_card_text, unknown_text}
 use Rattle.wh_policy.specs.Policy.{policy_types}
 use Rattle.wh_policy.specs.declared.attribute.Dim.{Dim}
 use Rattle.wh_policy.specs.declared.attribute.Dim.TheVariants.{Product, Store, Customer}
-use Rattle.wh_policy.specs.declared.format.Format.TheVariants.{One}
 use Rattle.wh_policy.specs.declared.policy.Policy.{Policy}
 use Rattle.wh_history.specs.Keys.{at_place}
 use Rattle.wh_history.specs.Accepted.{Accepted}
@@ -22,39 +17,18 @@ use Rattle.wh_rows.specs.Rows as row
 use Rattle.wh_rows.specs.Tables.{Tables}
 use Rattle.wh_rows.specs.declared.key.MemberKey.{MemberKey}
 use Rattle.wh_rows.specs.declared.key.ChangeKey.{ChangeKey}
-use Rattle.wh_rows.specs.declared.rows.MetaRow.{MetaRow}
 use Rattle.wh_rows.specs.declared.rows.ProfileRow.{ProfileRow}
 use Rattle.wh_store.specs.Meta.{made_with}
-use Rattle.wh_check.proofs.MadeMeta.{meta_made}
-use Rattle.wh_model.specs.Defined.{meta_at, command_at, member_at, change_at, profile_at, AreOf}
+use Rattle.wh_model.specs.Defined.{command_at, member_at, change_at, profile_at, AreOf}
 use Rattle.wh_plan.specs.FirstRows.{making_row, profile_of, first_profiles, calendar_rows, with_first}
 use Rattle.wh_model.specs.Sound.{making_of}
 use Rattle.wh_engine.proofs.MadeCalendar.{calendar_made}
+use Rattle.wh_engine.proofs.MadeMeta.{meta_made}
 
 -- the tables of a warehouse that was just made
 abbrev pub tables_made : Limits → Policy → List ℕ → Tables
 tables_made limits policy bytes =
     with_first (making_row bytes) (no_card_row (policy_types policy Customer)) (first_profiles (policy_types policy Customer)) (calendar_rows policy) (made_with limits)
-
--- ---- meta
-
--- what a making says of the format is the first
-abbrev said_first : MetaRow
-said_first = record { name = codes "format"; value = pos 1 }
-
-own_row : (m : FinMap (slice_cmp nat_cmp) MetaRow) → get (insert m (codes "format") said_first) (codes "format") ≡ Some said_first
-own_row m = get-insert nat_list_cmp_total m (codes "format") said_first (codes "format") ∙ ap (λ b. cond b (Some said_first) (get m (codes "format"))) (is_eq-slice_cmp (codes "format") (codes "format"))
-
-own_first : (limits : Limits) → get (made_with limits).meta (codes "format") ≡ Some said_first
-own_first limits = own_row _
-
-meta_first : (limits : Limits) (q : List ℕ) → get (made_with limits).meta q ≡ meta_at One limits q
-meta_first limits q =
-    let again = get-insert nat_list_cmp_total (made_with limits).meta (codes "format") said_first q ∙ ap (λ b. cond b (Some said_first) (get (made_with limits).meta q)) (is_eq-slice_cmp q (codes "format")) in
-    elim (cases_Bool (bytes_eq q (codes "format"))) [
-      | inl is ↦ subst (λ n. get (made_with limits).meta n ≡ meta_at One limits n) (sym ((bytes_eq-Decides q (codes "format")).0 is)) (own_first limits)
-      | inr other ↦ sym (again ∙ ap (λ b. cond b (Some said_first) (get (made_with limits).meta q)) other) ∙ meta_made One limits q
-    ]
 
 -- ---- tables of numbers
 
@@ -111,7 +85,7 @@ module _ (limits : Limits) (policy : Policy) (bytes : List ℕ) where
   pub tables_are : AreOf limits commands (tables_made limits policy bytes)
   tables_are = record {
     format = refl;
-    meta = meta_first limits;
+    meta = meta_made limits;
     command = command_made;
     member = λ key. get-empty row.member.order key ∙ sym (no_member key);
     change = λ key. get-empty row.change.order key ∙ sym (no_change key);

@@ -6,7 +6,7 @@ use lib.Utf8.{encode}
 use Rattle.std.specs.List.{AllByRecursion, IsDistinct}
 use Rattle.wh_day.specs.Day.{is_day}
 use Rattle.wh_day.specs.Value.{none_text, unknown_text, no_card_text, is_plain}
-use Rattle.wh_policy.specs.Policy.{described, read_policy}
+use Rattle.wh_policy.specs.Policy.{read_policy}
 use Rattle.wh_policy.specs.declared.attribute.Dim.{Dim}
 use Rattle.wh_policy.specs.declared.attribute.Dim.TheVariants.{Product, Store, Customer}
 use Rattle.wh_policy.specs.declared.record.DimensionRecord.{DimensionRecord}

@@ -9,9 +9,6 @@ pub mod Delivered
 pub mod Nights
 pub mod Scanned
 pub mod Fresh
-pub mod Checked
-pub mod Replica
-pub mod Judging
 pub mod Handed
 pub mod Outcome
 pub mod Writing

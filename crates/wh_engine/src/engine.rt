@@ -3,7 +3,7 @@
 ghost use Rattle.std.specs.Prelude.{◌≡◌, false, Err};
 ghost use Rattle.wh_engine.specs.Answered.{IsAgain, IsAnswered, IsPerformed, IsWritten, IsGoverned, IsFormatted, IsNotAccepted, IsNoted, KeepsNothing};
 ghost use Rattle.wh_store.specs.Reads.{is_second_taken, state_of};
-ghost use Rattle.wh_engine.specs.Faults.{BlamesDamage, IsWorkedOut, TellsTaken};
+ghost use Rattle.wh_engine.specs.Faults.{BlamesDamage, IsWorkedOut, TellsTaken, stops};
 ghost use Rattle.wh_engine.specs.Scanned.{Keeps, Shuts, WhenReady, WhenReadyOn, WhenStored};
 
 use crate::decision::{Decision, decide};
@@ -19,7 +19,8 @@ use wh_store::Tables;
 /// A warehouse that is open for commands, over one connection.
 #[derive(Drop)]
 pub struct Engine<S: Alter> {
-    pub(crate) tables: Tables<S>,
+    /// Its tables, for a crate that reads them: what it answers is to be noted (`note`). Everybody else calls the engine.
+    pub tables: Tables<S>,
     pub(crate) session: Session,
     /// How many keys the last command wrote.
     pub(crate) writes: u64,
@@ -87,6 +88,13 @@ impl<S: Alter> Engine<S> {
         ensures { result ≡ self.now.session.must_reopen }
     {
         self.session.must_reopen
+    }
+
+    /// Notes of what a reading of the tables answered whether the store refused a call.
+    pub fn note<A>(&mut self, answer: &Result<A, Fault>)
+        ensures { self.new ≡ record (self.old) { session = record (self.old.session) { must_reopen = stops answer.now } } }
+    {
+        self.session.must_reopen = stops(answer);
     }
 
     /// Hands the connection back.

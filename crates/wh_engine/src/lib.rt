@@ -2,7 +2,6 @@
 #![tactic(auto)]
 
 mod admission;
-mod checking;
 mod counts;
 mod decision;
 mod delivery;
@@ -15,7 +14,6 @@ mod opening;
 mod planning;
 mod preview;
 mod reopen;
-mod replica;
 mod scan;
 mod session;
 mod tally;
@@ -33,6 +31,5 @@ pub use reopen::{NotReopened, deliver_again, redeliver, restart};
 pub use scan::Scan;
 pub use wh_admission::{Command, Limit, Receipt, Refusal, Reply};
 pub use wh_batch::CommandKind;
-pub use wh_check::Verdict;
 pub use wh_store::OpenFault;
 pub use write::write_edits;

@@ -16,11 +16,11 @@ use Rattle.wh_store.specs.declared.fault.OpenFault.{OpenFault}
 use Rattle.wh_store.specs.declared.fault.OpenFault.TheVariants as opening
 use Rattle.wh_admission.specs.Admission.{AreAdmitted}
 use Rattle.wh_admission.specs.Checked.{Covers, stored_in}
-use Rattle.wh_check.specs.declared.verdict.Verdict.{Verdict}
-use Rattle.wh_check.specs.declared.verdict.Verdict.TheVariants.{Clean}
+use Rattle.wh_checking.specs.declared.verdict.Verdict.{Verdict}
+use Rattle.wh_checking.specs.declared.verdict.Verdict.TheVariants.{Clean}
 use Rattle.wh_engine.specs.Answered as engine
 use Rattle.wh_engine.specs.Answered.{IsReady}
-use Rattle.wh_engine.specs.Checked.{IsChecked, IsCheckedOf}
+use Rattle.wh_checking.specs.Checked.{IsChecked, IsCheckedOf}
 use Rattle.wh_engine.specs.Faults.{IsServed}
 use Rattle.wh_engine.specs.Opened.{SessionIs, IsNotOpened, IsUnopened as UnopenedBy}
 use Rattle.wh_engine.specs.declared.fault.Fault.{Fault}

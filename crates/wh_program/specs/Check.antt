@@ -4,9 +4,9 @@ use Rattle.wh_history.specs.Accepted.{Accepted}
 use Rattle.wh_history.specs.Tables.{Limits}
 use Rattle.wh_rows.specs.Raw.{Stored}
 use Rattle.wh_admission.specs.Checked.{stored_in}
-use Rattle.wh_check.specs.declared.verdict.Verdict.{Verdict}
-use Rattle.wh_check.specs.declared.verdict.Verdict.TheVariants.{Clean}
-use Rattle.wh_engine.specs.Checked.{IsChecked}
+use Rattle.wh_checking.specs.declared.verdict.Verdict.{Verdict}
+use Rattle.wh_checking.specs.declared.verdict.Verdict.TheVariants.{Clean}
+use Rattle.wh_checking.specs.Checked.{IsChecked}
 use Rattle.wh_engine.specs.Outcome.{Outcome}
 use Rattle.wh_engine.specs.declared.fault.Fault.{Fault}
 use Rattle.wh_engine.specs.declared.fault.Fault.TheVariants as fault

@@ -12,8 +12,8 @@ use Rattle.wh_admission.specs.declared.command.Limit.{Limit}
 use Rattle.wh_admission.specs.declared.command.Limit.TheVariants.{Commands, Changes, Facts}
 use Rattle.wh_admission.specs.declared.command.Refusal.{Refusal}
 use Rattle.wh_admission.specs.declared.command.Refusal.TheVariants as refusal
-use Rattle.wh_check.specs.declared.verdict.Verdict.{Verdict}
-use Rattle.wh_check.specs.declared.verdict.Verdict.TheVariants.{Clean, Wrong}
+use Rattle.wh_checking.specs.declared.verdict.Verdict.{Verdict}
+use Rattle.wh_checking.specs.declared.verdict.Verdict.TheVariants.{Clean, Wrong}
 use Rattle.wh_engine.specs.declared.counts.Counts.{Counts}
 use Rattle.wh_engine.specs.declared.fault.Fault.{Fault}
 use Rattle.wh_engine.specs.declared.fault.Fault.TheVariants as fault

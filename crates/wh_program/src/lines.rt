@@ -19,9 +19,8 @@ use crate::lines::plan_text::plan_text;
 use itoa::Buffer;
 use std::alloc::{AllocError, Global};
 use wh_batch::{BadManifest, BatchFault, FaultKind};
-use wh_engine::{
-    Command, Counts, Fault, InitFault, Limit, OpenFault, Receipt, Refusal, Reply, Verdict,
-};
+use wh_checking::Verdict;
+use wh_engine::{Command, Counts, Fault, InitFault, Limit, OpenFault, Receipt, Refusal, Reply};
 use wh_explain::push_number;
 use wh_plan::Edits;
 use wh_policy::PolicyFault;

@@ -11,6 +11,7 @@ use sqlite::{Alter, Connection};
 use std::alloc::{AllocError, Global};
 use std::io;
 use std::io::Write;
+use wh_checking::Check;
 use wh_engine::Engine;
 
 /// Checks what is stored.

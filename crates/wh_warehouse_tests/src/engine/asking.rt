@@ -10,10 +10,10 @@ use sqlite_value::value::Bytes;
 use std::alloc::{AllocError, Global};
 use std::fmt::Write;
 use wh_batch::Kind;
+use wh_checking::{Check, Verdict};
 use wh_day::Value;
 use wh_engine::{
     Command, CommandKind, Counts, Engine, Fault, InitFault, OpenFault, Receipt, Refusal, Reply,
-    Verdict,
 };
 use wh_policy::{Dim, Policy};
 use wh_scenarios::engine::policies::policy;

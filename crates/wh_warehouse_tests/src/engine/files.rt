@@ -14,8 +14,9 @@ use crate::words::{number, push_number};
 use sqlite::{Alter, Connection, FileStore, Files, Options};
 use sqlite_disk::{Crash, Disk, Fuse, Memory};
 use std::alloc::Global;
+use wh_checking::{Check, Verdict};
 use wh_engine::{
-    Command, Engine, Fault, InitFault, OpenFault, Replies, Reply, Verdict, deliver_again, redeliver,
+    Command, Engine, Fault, InitFault, OpenFault, Replies, Reply, deliver_again, redeliver,
 };
 use wh_rows::Limits;
 use wh_scenarios::{parted, push_line};

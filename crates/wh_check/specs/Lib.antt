@@ -1,4 +1,0 @@
-pub mod Alike
-pub mod Compared
-pub mod Meta
-pub mod Judged

@@ -1,0 +1,15 @@
+pub mod SameValues
+pub mod Comparing
+pub mod ReadsOn
+pub mod ListedTables
+pub mod ListedMaps
+pub mod MadeMeta
+pub mod Judging
+pub mod Assembling
+pub mod FoundRows
+pub mod MetaRows
+pub mod Answering
+pub mod Followed
+pub mod Replicating
+pub mod JudgedTables
+pub mod SoundTables
