@@ -12,7 +12,6 @@ damaged value is never taken for another: what is out of its type is told of its
 is refused or only read leaves the rows of all tables as they were; no run takes 20 seconds or is ended by a signal. The same numbers give the same changes.
 """
 
-import os
 import random
 import re
 import sqlite3
@@ -20,12 +19,13 @@ import sys
 import tempfile
 
 from lib import stored
+from lib.program import program
 from lib.stored import damaged, e7
 from lib.worked import DAYS, FILES, REPORT, SECOND, TABLES, TOTAL, Answer, Count, Text, batch, connected, copy, make_worked, printed, rows_of, run, said, same, write_files
 
 ARGUMENTS = dict(enumerate(sys.argv))
 CHANGES = int(ARGUMENTS.get(1, 1000))
-PROGRAM = os.path.realpath(ARGUMENTS.get(2, f"{os.path.dirname(__file__)}/../crates/wh/out/wh"))
+PROGRAM = program(2)
 FIRST = int(ARGUMENTS.get(3, 1))
 
 ACCEPTED = "accepted 21 p10: 1 records, 0 placeholders"

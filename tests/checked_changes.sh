@@ -3,7 +3,7 @@
 # checked_changes.sh [PROGRAM]
 set -eu
 cd "$(dirname "$0")/.."
-program=$(realpath "${1:-crates/wh/out/wh}")
+program=$(realpath "${1:-${WH:-crates/wh/out/wh}}")
 work=$(mktemp -d)
 trap 'rm -rf "$work"' EXIT
 . tests/lib/warehouse.sh

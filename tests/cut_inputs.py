@@ -10,13 +10,13 @@ voids (each loaded where it is due, and looked at in the file), a manifest (deli
 
 import os
 import sqlite3
-import sys
 import tempfile
 
 from lib import readers
+from lib.program import program
 from lib.worked import FILES, Answer, Count, Text, copy, expected, make_worked, rows_of, run, said, same, write_files
 
-PROGRAM = os.path.realpath(sys.argv[1] if len(sys.argv) > 1 else f"{os.path.dirname(__file__)}/../crates/wh/out/wh")
+PROGRAM = program(1)
 count = Count()
 work = tempfile.TemporaryDirectory()
 folder = work.name

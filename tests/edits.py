@@ -22,8 +22,9 @@ nothing. All is done on a copy of the repository; a crate with no kept work in o
 the edits, and the status is 1 where one is bad or not refused.
 
 --rules tries those edits alone that have a line `rule:`, which says in words the wrong body that the rules of the warehouse name.
-It is the gate's, in which nothing is kept but the libraries: so it checks the copies alone, first without an edit, where each
-has to be proved. Of what they call it takes the contract, with a hole in place of the proof, since the gate has proved it before.
+It is the gate's, in which nothing is kept but the libraries: so it checks the copies alone, in one check with their copies without
+an edit, where each of these has to be proved. All other functions have a body that says nothing, and a hole in place of the proof, since
+the gate has proved them before: so of what the copies call it takes the contract.
 """
 
 import argparse
@@ -34,8 +35,11 @@ import shutil
 import subprocess
 import sys
 import tempfile
+from concurrent.futures import ThreadPoolExecutor
 from pathlib import Path
 from typing import NamedTuple
+
+from lib.crates import all_below, libraries_of
 
 ROOT = Path(__file__).resolve().parent.parent
 FUNCTION = re.compile(r"( *)(?:pub(?:\([^)]*\))? )?(?:const |final )*fn (\w+)")
@@ -156,6 +160,13 @@ def body_of(lines, function):
     return next((at for at in range(function.head, function.past) if lines[at] == indent + "{"), function.head + 1)
 
 
+def start_of_body(lines, function):
+    """The row below the brace that opens a function's body, which stands alone below a contract."""
+    indent = lines[function.past - 1].removesuffix("}")
+    alone = next((at for at in range(function.head, function.past) if lines[at] == indent + "{"), None)
+    return 1 + (alone or next(at for at in range(function.head, function.past) if lines[at].endswith("{")))
+
+
 def clauses_left_out(lines, edit):
     """The names of what a function ensures, without the clause that an edit names and the first other one: of a clause that
     stands alone the prover states its goals in another form, which the function's answers wouldn't fit. None where the edit
@@ -226,20 +237,33 @@ def copy_answers(crate, edit):
         if left_out and (left_out & set(re.findall(r"-clause-(\w+)", kept)) or ANSWER_FOR_ALL.search(kept)):
             sys.exit(f"{edit.label} can name no clause: an answer for one of {edit.function.name} is for others too, or cites theirs")
         file.write_text(kept)
-    return target
 
 
-def take_contracts(crate, proved):
-    """Puts a hole in place of each proof that has files, but for those in these folders: so what they call is taken by its contract.
-    A function's files name its goals, by which they are told from lemmas in files of the same names."""
-    files = [it for it in crate.glob("proofs/**/*.antt") if it.name in ("Answers.antt", "Invariants.antt")]
-    for folder in {it.parent for it in files}.difference(proved):
-        names, own = folder.relative_to(crate).parts, [it for it in files if it.parent == folder]
-        module = ".".join(["Rattle", crate.name, *names])
-        if not names[-1].startswith("+") and all(re.search(rf"{re.escape(module)}\.(Goals|Given)\b", it.read_text()) for it in own):
-            (folder / "Proof.antt").write_text(HOLE.format(module=module, name=names[-1]))
-            for it in own:
-                it.unlink()
+def is_in_cycle(lines, function):
+    """Whether a function calls itself, or says that it is called by what it calls: such functions have one proof together."""
+    name, attributes = function.name.rpartition("::")[2], lines[function.top : function.head]
+    return any("#[cycle" in it for it in attributes) or any(re.search(rf"\b{name}\(", it) for it in lines[function.head + 1 : function.past])
+
+
+def without_bodies(lines, module, kept):
+    """Lines in which each function has a body that says nothing, but for those in `kept`, of traits, and in cycles. And the folders of their proofs,
+    below that of the module."""
+    made, folders = lines[:], []
+    for it in functions_of(lines):
+        first = start_of_body(lines, it)
+        if not (it.is_of_trait or it.name in kept or is_in_cycle(lines, it)) and first < it.past - 1:
+            made[first : it.past - 1] = ["unreachable!()"] + [""] * (it.past - 2 - first)
+            folders.append(module.joinpath(*it.name.split("::")))
+    return made, folders
+
+
+def take_contract(crate, folder):
+    """Puts a hole in place of the proof of the function whose proof stands in this folder, or would: so what calls it takes its contract."""
+    names = folder.relative_to(crate).parts
+    folder.mkdir(parents=True, exist_ok=True)
+    for it in ("Answers.antt", "Invariants.antt"):
+        (folder / it).unlink(missing_ok=True)
+    (folder / "Proof.antt").write_text(HOLE.format(module=".".join(["Rattle", crate.name, *names]), name=names[-1]))
 
 
 def copy_work(source, target):
@@ -254,22 +278,10 @@ class Said(NamedTuple):
     places: dict
 
 
-def libraries_of(root):
-    """The libraries that each crate uses, by its name."""
-    lines = [line.partition("#")[0] for line in (root / "crates.txt").read_text().split("\n")]
-    return {name.strip(): used.split() for name, colon, used in (line.partition(":") for line in lines) if colon}
-
-
-def all_below(used, name):
-    """The repository's libraries that a crate uses, and those that they use."""
-    own = [it for it in used[name] if it in used]
-    return {*own, *(below for it in own for below in all_below(used, it))}
-
-
 def prover_over_libraries(crate):
     """The prover itself, over the libraries as they lie there: `rt check` would first prove those again that `rt ci` left."""
     kit, crates = Path(shutil.which("rt")).resolve().parent.parent, crate.parent
-    used = libraries_of(crates.parent)
+    used = libraries_of(crates.parent / "crates.txt")
     folders = {name: crates / name / "out/rlib" for name in sorted(all_below(used, crate.name))}
     words = ["rattle", "check", "--crate-name", crate.name, "src/lib.rt", "--incremental", "out/incremental"]
     for name in ["std", *used[crate.name]]:
@@ -286,20 +298,25 @@ def check(crate, edits):
         copy_work(crate / "out/kept", crate / "out/incremental")
     kept = crate / "out/proofs"
     shutil.copytree(crate / "proofs", kept)
-    own = {copy_answers(crate, it) if it.copy else answers_of(crate, it) for it in edits if it.function and answers_of(crate, it)}
+    for it in edits:
+        if it.copy and answers_of(crate, it):
+            copy_answers(crate, it)
     alone = [word for it in edits if it.is_alone for word in ("--only", name_of(crate, it))]
-    if alone:
-        take_contracts(crate, own)
-    files = {it.file: (crate / it.file).read_text() for it in edits}
+    sources = {it.relative_to(crate): it.read_text() for it in crate.glob("src/**/*.rt")}
     places = {}
-    for file, text in files.items():
-        made, found = edited(text.split("\n"), [it for it in edits if it.file == file])
-        (crate / file).write_text("\n".join(made))
+    for file, text in sources.items():
+        here = [it for it in edits if it.file == str(file)]
+        made, found = edited(text.split("\n"), here)
         places.update(found)
+        if alone:
+            made, folders = without_bodies(made, crate.joinpath("proofs", *file.with_suffix("").parts[1:]), {it.function.name + it.copy for it in here})
+            for it in folders:
+                take_contract(crate, it)
+        (crate / file).write_text("\n".join(made))
     how = {"stdin": subprocess.DEVNULL, "stdout": subprocess.PIPE, "stderr": subprocess.STDOUT}
     prover = [*prover_over_libraries(crate), "--allow-holes"] if alone else ["rt", "check"]
     said = subprocess.run([*prover, "--jobs", "1", *alone], cwd=crate, text=True, errors="replace", **how).stdout
-    for file, text in files.items():
+    for file, text in sources.items():
         (crate / file).write_text(text)
     shutil.rmtree(crate / "proofs")
     kept.rename(crate / "proofs")
@@ -432,21 +449,30 @@ def try_edits(crate, edits):
     return len(missed)
 
 
-def try_copies(crate, edits):
-    """Tries a copy without an edit of each function that edits are made in copies of, with each clause that they name. Prints
-    those that are not proved, and gives their number."""
+def copies_of(crate, edits):
+    """A copy without an edit of each function that edits are made in copies of, with each clause that they name."""
     copied = {(it.file, it.function, it.clause): it for it in edits if it.copy}
     unedited = []
     for (_, function, clause), it in copied.items():
         label, body = f"{function.name} of {crate.name}, {clause or 'all clauses'}", function.past - 1
         unedited += [it._replace(label=label, first=body, past=body, lines=[], copy=f"_unedited_{clause}".rstrip("_"))]
-    said = check(crate, unedited)
+    return unedited
+
+
+def missed_copies(crate, unedited, said):
+    """Prints those copies without an edit that are not proved, and gives their number."""
     answers = [answers_for(crate, it, said) for it in unedited]
     missed = [it for it, reasons in zip(unedited, answers) if not reasons or not all(map(is_proof, reasons))]
     print(f"{crate.name}: {len(unedited) - len(missed)} of {len(unedited)} copies without an edit are proved", flush=True)
     for edit in missed:
         print(f"NOT PROVED AS A COPY: {edit.label}: {why_bad(said)}", flush=True)
     return len(missed)
+
+
+def try_copies(crate, edits):
+    """Tries the copies without an edit, which have to be proved, and gives how many aren't."""
+    unedited = copies_of(crate, edits)
+    return missed_copies(crate, unedited, check(crate, unedited))
 
 
 def try_crate(crate, tried):
@@ -470,30 +496,62 @@ def is_rule(path):
     return re.search(r"^rule: ", path.read_text(), re.M)
 
 
+def crates_with_rules():
+    """The names of the crates that have edits with a line `rule:`."""
+    return sorted({it.parts[-3] for it in ROOT.glob("crates/*/edits/*.edit") if is_rule(it)})
+
+
 def try_rules(crate):
-    """The same of the edits with a line `rule:`."""
+    """The same of the edits with a line `rule:`, in one check with their copies without an edit; what that leaves unclear is tried on."""
     start, edits = seconds(), [read(crate, path) for path in sorted(crate.glob("edits/*.edit")) if is_rule(path)]
     if not all(edits):
         sys.exit(f"{crate.name}: a text of an edit isn't once in its file")
     edits = [it._replace(is_alone=True) for it in edits]
-    if try_copies(crate, edits):
+    unedited, chosen = copies_of(crate, edits), fitting(edits)
+    said = check(crate, unedited + chosen)
+    if not ANSWER.search(said.text):
+        said, chosen = check(crate, unedited), []
+    if missed_copies(crate, unedited, said):
         sys.exit(f"{crate.name}: a copy without an edit isn't proved, so its edits say nothing")
     copy_work(crate / "out/incremental", crate / "out/kept")
-    missed = try_edits(crate, edits)
-    print(f"{crate.name}: {len(edits)} edits that a rule names, {seconds() - start:.0f} s", flush=True)
+    refused = [it for it in chosen if any(is_refusal(it, reason) for reason in answers_for(crate, it, said))]
+    left = [it for it in edits if it not in refused]
+    missed = try_edits(crate, left) if left else 0
+    print(f"{crate.name}: {len(edits)} edits that a rule names, {len(refused)} refused at once, {seconds() - start:.0f} s so far", flush=True)
     return len(edits), missed
 
 
+def link(old, new):
+    """Copies a file of a library, which nothing writes to once it is made, by a link where that can be."""
+    try:
+        os.link(old, new)
+    except OSError:
+        shutil.copy2(old, new)
+
+
 def copy_to(room, names):
-    """Copies the repository, with the libraries of all crates and the kept work of those that are named."""
+    """Copies the repository, with the libraries below the crates that are named, and the kept work of these."""
+    used = libraries_of(ROOT / "crates.txt")
+    below = {it for name in names for it in all_below(used, name)}
 
     def left_out(folder, found):
         if Path(folder).name != "out":
             return [it for it in found if it == ".git"]
-        keeps = ["rlib", "incremental"] if Path(folder).parent.name in names else ["rlib"]
+        crate = Path(folder).parent.name
+        keeps = ["rlib"] * (crate in below) + ["incremental"] * (crate in names)
         return [it for it in found if it not in keeps]
 
-    shutil.copytree(ROOT, room, symlinks=True, ignore=left_out)
+    def copied(old, new):
+        return (link if "/out/rlib/" in str(old) else shutil.copy2)(old, new)
+
+    shutil.copytree(ROOT, room, symlinks=True, ignore=left_out, copy_function=copied)
+
+
+def lanes():
+    """How many crates to try side by side: one a processor that this process may use, with 5 GB each."""
+    with open("/proc/meminfo") as file:
+        free = int(re.search(r"MemAvailable: *(\d+)", file.read())[1])
+    return max(1, min(len(os.sched_getaffinity(0)), free // 5_000_000))
 
 
 def main():
@@ -502,18 +560,17 @@ def main():
     words.add_argument("--rules", action="store_true", help="those that the rules of the warehouse name, of all crates where none is named")
     words.add_argument("crate", nargs="*")
     given = words.parse_args()
-    with_rules = sorted({it.parts[-3] for it in ROOT.glob("crates/*/edits/*.edit") if is_rule(it)})
-    names = given.crate or (with_rules if given.rules else words.error("no crate is named"))
-    with tempfile.TemporaryDirectory(prefix="wh-edits-") as room:
+    names = given.crate or (crates_with_rules() if given.rules else words.error("no crate is named"))
+    with tempfile.TemporaryDirectory(prefix="wh-edits-") as room, ThreadPoolExecutor(lanes()) as side_by_side:
         copy_to(Path(room, "wh"), names)
         tried = try_copies if given.copies else try_edits
         crates = [Path(room, "wh", "crates", name) for name in names]
-        counts = [try_rules(it) if given.rules else try_crate(it, tried) for it in crates]
+        counts = [*side_by_side.map(try_rules if given.rules else lambda it: try_crate(it, tried), crates)]
     edits, missed = (sum(it) for it in zip(*counts))
     if given.copies:
         print(f"{missed} copies not proved, {seconds():.0f} s of processor time")
     else:
-        print(f"{edits - missed} refused, {missed} not refused, {seconds():.0f} s of processor time")
+        print(f"{edits - missed} passed, {missed} failed")
     return 1 if missed else 0
 
 

@@ -13,13 +13,13 @@ next one. At last the same into a pipe that is closed and into /dev/full.
 import errno
 import os
 import subprocess
-import sys
 import tempfile
 
+from lib.program import program
 from lib.worked import DAYS, Answer, Count, copy, make_worked, rows_of, run, said, same, write_files
 
 HERE = os.path.dirname(os.path.realpath(__file__))
-PROGRAM = os.path.realpath(sys.argv[1] if len(sys.argv) > 1 else f"{HERE}/../crates/wh/out/wh")
+PROGRAM = program(1)
 LINE = b"failed: G4 write\n"
 NIGHT = ["product,p3,p3", "product,p4,p4", "sales,s2,s2", "store,bad id,p1", "product,p3,p3"]
 LINES = """\

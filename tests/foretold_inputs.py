@@ -8,14 +8,14 @@ NUMBER inputs (300) are made of a policy and of batches of each kind: bytes, pie
 and some become UTF-16 or Latin-1. Half of them are for a file of format 1, half for one of format 2.
 """
 
-import os
 import random
 import sys
 
+from lib.program import program
 from lib.worked import FILES, Count, copy, make_worked, own_folder, run, said, write_files
 
 NUMBER = int(sys.argv[1]) if len(sys.argv) > 1 else 300
-PROGRAM = os.path.realpath(sys.argv[2] if len(sys.argv) > 2 else f"{os.path.dirname(__file__)}/../crates/wh/out/wh")
+PROGRAM = program(2)
 INPUTS = [("product", "p3"), ("product", "p10"), ("customer", "c2"), ("sales", "s2"), ("sales", "d5"), ("void", "v1"), ("migrate", "m1")]
 PIECES = [b'"', b",", b";", b"\t", b"\n", b"\r\n", b"\xef\xbb\xbf", b"\xfc", b"\xff", b"\x00", b"(none)", b"0", b"-", b".", b"a" * 70, b"2024-02-30", b"01.02.2024", b"1,50"]
 # A header that is wrong takes two lines more.

@@ -9,7 +9,7 @@
 set -eu
 cd "$(dirname "$0")/.."
 loads=${1:-50}
-program=$(realpath "${2:-crates/wh/out/wh}")
+program=$(realpath "${2:-${WH:-crates/wh/out/wh}}")
 policy=$PWD/examples/flat.toml
 work=$(mktemp -d)
 trap 'rm -rf "$work"' EXIT

@@ -9,7 +9,7 @@
 set -eu
 cd "$(dirname "$0")/.."
 sales=${1:-100000}
-program=$(realpath "${2:-crates/wh/out/wh}")
+program=$(realpath "${2:-${WH:-crates/wh/out/wh}}")
 batches=$((sales / 5000))
 work=$(mktemp -d)
 trap 'rm -rf "$work"' EXIT

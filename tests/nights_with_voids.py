@@ -14,6 +14,8 @@ import subprocess
 import sys
 import tempfile
 
+from lib.program import program
+
 POLICY = 'first_year = 2023\nlast_year = 2026\n[[product]]\nname = "brand"\ntype = 6\n[[store]]\nname = "city"\ntype = 2\n[[customer]]\nname = "tier"\ntype = 2\n'
 RANGE = ("2023-01-01", "2026-12-31")
 
@@ -184,12 +186,12 @@ class Night:
 
 def main():
     nights = int(sys.argv[1]) if len(sys.argv) > 1 else 20
-    program = os.path.realpath(sys.argv[2] if len(sys.argv) > 2 else os.path.join(os.path.dirname(__file__), "../crates/wh/out/wh"))
+    built = program(2)
     withdrawn = 0
     for seed in range(nights):
         with tempfile.TemporaryDirectory() as room:
             os.chdir(room)
-            withdrawn += Night(program, seed).make()[0]
+            withdrawn += Night(built, seed).make()[0]
             os.chdir("/")
     print(f"{nights} nights of 40 commands, {withdrawn} lines withdrawn: ok")
 

@@ -3,7 +3,7 @@
 # the nine indexes and the rows that the examples' records and sales define, and after an upgrade with two tables and three indexes more. read_by_sqlite3.sh [PROGRAM]
 set -eu
 cd "$(dirname "$0")/.."
-program=$(realpath "${1:-crates/wh/out/wh}")
+program=$(realpath "${1:-${WH:-crates/wh/out/wh}}")
 work=$(mktemp -d)
 trap 'rm -rf "$work"' EXIT
 file=$work/shop.wh

@@ -16,12 +16,13 @@ import os
 import subprocess
 import sys
 
+from lib.program import program
 from lib.worked import WORDS, Answer, Count, copy, expected, own_folder, rows_of, run, said, write_files
 
 HERE = os.path.dirname(os.path.realpath(__file__))
 ARGUMENTS = dict(enumerate(sys.argv))
 STEP = int(ARGUMENTS.get(1, 1))
-PROGRAM = os.path.realpath(ARGUMENTS.get(2, f"{HERE}/../crates/wh/out/wh"))
+PROGRAM = program(2)
 ROW = int(ARGUMENTS.get(3, 0))
 SHORT, STOPPED = b"failed: E8 memory\n", b"failed: E9 store, memory\n"
 # a log that is shorter has no page in it

@@ -11,7 +11,7 @@
 set -eu
 cd "$(dirname "$0")/.."
 step=${1:-1}
-program=$(realpath "${2:-crates/wh/out/wh}")
+program=$(realpath "${2:-${WH:-crates/wh/out/wh}}")
 alone=${3:-}
 work=$(mktemp -d)
 trap 'rm -rf "$work"' EXIT

@@ -8,7 +8,7 @@
 set -eu
 cd "$(dirname "$0")/.."
 rounds=${1:-5}
-program=$(realpath "${2:-crates/wh/out/wh}")
+program=$(realpath "${2:-${WH:-crates/wh/out/wh}}")
 work=$(mktemp -d)
 trap 'rm -rf "$work"' EXIT
 . tests/lib/warehouse.sh

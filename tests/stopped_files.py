@@ -20,12 +20,13 @@ import subprocess
 import sys
 import tempfile
 
+from lib.program import program
 from lib.worked import TABLES, Answer, Count, copy, make_worked, rows_of, run, said, same, write_files
 
 HERE = os.path.dirname(os.path.realpath(__file__))
 ARGUMENTS = dict(enumerate(sys.argv))
 STEP = int(ARGUMENTS.get(1, 1))
-PROGRAM = os.path.realpath(ARGUMENTS.get(2, f"{HERE}/../crates/wh/out/wh"))
+PROGRAM = program(2)
 ALONE = ARGUMENTS.get(3)
 STOPPED = 137
 NO_WAREHOUSE = said("failed: N1 not a warehouse")
