@@ -13,7 +13,7 @@ import sys
 from pathlib import Path
 
 ROOT = Path(__file__).resolve().parent.parent
-FOLDERS = "bench|crates|docs|examples|mirror|tests"
+FOLDERS = "bench|crates|docs|examples|mirror|tests|tools"
 LINK = re.compile(r"\[[^\]\n]*\]\(([^)\s]+)\)")
 PATH = re.compile(rf"(?<![\w/.-])((?:{FOLDERS})/[\w./*-]*[\w*/])(#[\w-]+)?")
 NAMED = re.compile(r"`(?:[\w-]+/)*([\w-]+\.(?:antt|md|py|rt|sh))`")

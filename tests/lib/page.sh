@@ -1,7 +1,7 @@
 # What the scripts that run a page have in common. It is sourced, at the top of the repository, and then called as `run_page DOCUMENT`.
 #
-# The page is run with the built program (`rt run` in crates/wh builds it; WH names another), as `wh`, in a folder of its own beside a copy of
-# examples/. In a block of code of no language a line that begins with `$ ` is a command, and the lines up to the next one, or to the end of the
+# The page is run with the built program (`rt run` in crates/wh builds it; WH names another), as `wh`, in a folder of its own beside copies of
+# examples/ and tools/. In a block of code of no language a line that begins with `$ ` is a command, and the lines up to the next one, or to the end of the
 # block, are what it must print. A block of `sql` is handed to the program sqlite3, with the file shop.wh of that folder, and a block of `python`
 # to Python; either must answer the rows of the last report before it, as `label|lines|quantity|amount|cost|margin` with money in hundredths.
 # A block of `postgresql` is handed to psql, with the database shop, and must answer the same rows, with money in two decimals.
@@ -68,7 +68,7 @@ run_page() {
     trap 'rm -rf "$work"' EXIT
     mkdir "$work/bin"
     ln -s "$program" "$work/bin/wh"
-    cp -R examples "$work"
+    cp -R examples tools "$work"
     PATH=$work/bin:$PATH
     cd "$work"
     while IFS= read -r line; do
