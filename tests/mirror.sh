@@ -43,8 +43,8 @@ if [ $# -gt 0 ]; then
     count "$servers/told"
 else
     # some tests beside the others, since most of their time goes to waiting for servers
-    /usr/bin/python3 mirror/tests/run.py test_nights test_formats test_shards > "$servers/told.1" 2>&1 &
-    /usr/bin/python3 mirror/tests/run.py test_kills test_refusals > "$servers/told.2" 2>&1 || true
+    /usr/bin/python3 mirror/tests/run.py test_nights test_formats test_chain_readers > "$servers/told.1" 2>&1 &
+    /usr/bin/python3 mirror/tests/run.py test_kills test_refusals test_chain test_chain_refusals > "$servers/told.2" 2>&1 || true
     wait
     page > "$servers/told.3" 2>&1 || true
     for number in 1 2 3; do

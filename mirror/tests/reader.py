@@ -16,15 +16,13 @@ def totals_of(shop: Shop) -> tuple[int, int, str]:
 
 
 class Reader(threading.Thread):
-    """Asks again and again, and keeps each answer; every other time in two statements of one snapshot.
+    """Asks again and again, and keeps each answer; without a question of its own every other time in two statements of
+    one snapshot."""
 
-    With shards such a transaction begins with a lock, as mirror/README.md says.
-    """
-
-    def __init__(self, dsn: str, has_shards: bool = False) -> None:
+    def __init__(self, dsn: str, question: str | None = None) -> None:
         super().__init__()
         self._dsn = dsn
-        self._has_shards = has_shards
+        self._question = question
         self._is_ended = threading.Event()
         self.answers: set[tuple | None] = set()
         self.fault: psycopg.Error | None = None
@@ -42,12 +40,10 @@ class Reader(threading.Thread):
             self.fault = error
 
     def _ask_once(self, connection: psycopg.Connection) -> tuple | None:
-        if self.times % 2:
+        if self._question or self.times % 2:
             connection.isolation_level = psycopg.IsolationLevel.READ_COMMITTED
-            return connection.execute(TOTALS.encode()).fetchone()
+            return connection.execute((self._question or TOTALS).encode()).fetchone()
         connection.isolation_level = psycopg.IsolationLevel.REPEATABLE_READ
-        if self._has_shards:
-            connection.execute(b"LOCK TABLE wh.fact IN ACCESS SHARE MODE")
         (commands,) = connection.execute(b"SELECT commands FROM wh.mirror").fetchone()
         sums = connection.execute(b"SELECT count(*), sum(amount)::text FROM wh.sales_as_is").fetchone()
         return (commands, *sums)

@@ -12,6 +12,7 @@ import random
 import re
 import shutil
 import subprocess
+from collections.abc import Sequence
 from dataclasses import dataclass
 from pathlib import Path
 
@@ -97,14 +98,19 @@ def wh(*words: str) -> str:
 class Shop:
     """A warehouse in a folder, to which nights can be added."""
 
-    def __init__(self, folder: Path, name: str = "shop") -> None:
+    def __init__(self, folder: Path, name: str = "shop", months: Sequence[int] = range(1, 13)) -> None:
+        """The sales are of these months of 2024."""
+        self._months = months
         self.folder = folder
         self.path = str(folder / f"{name}.wh")
         self._chance = random.Random(name)
         self._night = 0
         self._policy = 0
-        self._sent = 0
+        # how many commands were sent
+        self.sent = 0
         self._tickets: list[str] = []
+        # the kind and text of each batch of a dimension
+        self.records: list[tuple[str, str]] = []
         self._is_migrated = False
         self._is_upgraded = False
         wh("init", self.path, self._written(self._policy_text()))
@@ -122,19 +128,29 @@ class Shop:
         """One more night: each third one without records, and each sixth one with a migration."""
         self._night += 1
         if self._night % 6 == 0:
-            self._policy = (self._policy + 1) % 4
-            self._is_migrated = True
-            wh("migrate", self.path, self._id(), self._written(self._policy_text()))
+            self.migrate()
         if self._night == 20:
             self.upgrade()
         if self._night % 3:
             for dimension in ("product", "store", "customer"):
-                self.load(dimension, self._records(dimension))
+                self.records.append((dimension, self._records(dimension)))
+                self.load(*self.records[-1])
         self.load("sales", self._sales())
         if self._is_upgraded:
             # a line of this night, and one of a night before
             chosen = [self._tickets.pop(), self._tickets.pop(self._chance.randrange(len(self._tickets)))]
             self.load("void", "ticket,line\n" + "".join(f"{ticket},1\n" for ticket in chosen))
+
+    def carry_over(self, older: "Shop") -> None:
+        """Loads the records that another warehouse has."""
+        for kind, batch in older.records:
+            self.load(kind, batch)
+
+    def migrate(self) -> None:
+        """Puts the next policy in force."""
+        self._policy = (self._policy + 1) % 4
+        self._is_migrated = True
+        wh("migrate", self.path, self._id(), self._written(self._policy_text()))
 
     def upgrade(self) -> None:
         """Makes it a warehouse of format 2."""
@@ -151,18 +167,18 @@ class Shop:
 
     def report(self, attribute: str, mode: str) -> list[Line]:
         """The lines of a report over all days, that of the total last."""
-        text = wh("report", self.path, attribute, mode, "1900-01-01", "9999-12-31")
-        lines = []
-        for line in text.splitlines()[2:]:
-            # two spaces stand before the label, which may itself begin with one
-            found = re.fullmatch(r" *(\S+) +(\S+) +(\S+) +(\S+) +(\S+)  (.*)", line)
-            lines.append(Line(found[6], *found.groups()[:5]))
-        return lines
+        return _lines_of(wh("report", self.path, attribute, mode, "1900-01-01", "9999-12-31"))
+
+    def reports(self, asked: list[tuple[str, str]]) -> dict[tuple[str, str], list[Line]]:
+        """The lines of the reports of some attributes and modes."""
+        listed = "".join(f"{attribute},{mode},1900-01-01,9999-12-31\n" for attribute, mode in asked)
+        text = wh("reports", self.path, self._written(listed))
+        return dict(zip(asked, map(_lines_of, text.split("\n\n"))))
 
     def readings(self) -> list[tuple[str, str, str]]:
         """Dimension, name and mode of each reading that the policy in force offers."""
         return [
-            (dimension, name, mode) for dimension, name, kind in self._attributes() for mode in READINGS[kind]
+            (dimension, name, mode) for dimension, name, kind in self.attributes() for mode in READINGS[kind]
         ]
 
     @property
@@ -176,15 +192,15 @@ class Shop:
         return {words[0]: int(words[1]) for words in lines if len(words) == 2}
 
     def _id(self) -> str:
-        self._sent += 1
-        return f"b{self._sent}"
+        self.sent += 1
+        return f"b{self.sent}"
 
     def _written(self, text: str) -> str:
         path = self.folder / "input"
         path.write_text(text, encoding="utf-8", newline="")
         return str(path)
 
-    def _attributes(self) -> list[tuple[str, str, int]]:
+    def attributes(self) -> list[tuple[str, str, int]]:
         """Dimension, name and type of each attribute; one stays once a policy has named it."""
         typed = [(dimension, name, types[self._policy]) for dimension, name, types in _TYPES]
         return [
@@ -194,10 +210,10 @@ class Shop:
         ]
 
     def _names(self, dimension: str) -> list[str]:
-        return [name for owner, name, _ in self._attributes() if owner == dimension]
+        return [name for owner, name, _ in self.attributes() if owner == dimension]
 
     def _policy_text(self) -> str:
-        tables = [f'[[{owner}]]\nname = "{name}"\ntype = {kind}\n' for owner, name, kind in self._attributes()]
+        tables = [f'[[{owner}]]\nname = "{name}"\ntype = {kind}\n' for owner, name, kind in self.attributes()]
         last_year = 2024 if self._night < 12 else 2025
         holidays = '[[holiday]]\nday = "2024-12-25"\nname = "Christmas Day"\n'
         if self._policy % 2:
@@ -210,8 +226,8 @@ class Shop:
     def _record(self, dimension: str, member: str, day: str) -> list[str]:
         return [member, day, *(self._chance.choice(_VALUES) for _ in self._names(dimension))]
 
-    def _day(self, year: str) -> str:
-        return f"{year}-{self._chance.randrange(1, 13):02}-{self._chance.randrange(1, 29):02}"
+    def _day(self, year: str, months: Sequence[int] = range(1, 13)) -> str:
+        return f"{year}-{self._chance.choice(months):02}-{self._chance.randrange(1, 29):02}"
 
     def _records(self, dimension: str) -> str:
         members = {"product": 15, "store": 4, "customer": 12}[dimension]
@@ -225,7 +241,7 @@ class Shop:
         header = "ticket,line,day,store,product,customer,quantity,amount,cost".split(",")
         rows = [header + (["discount"] if self._is_upgraded else [])]
         for number in range(20):
-            ticket, day, chance = f"T{self._night}-{number}", self._day("2024"), self._chance
+            ticket, day, chance = f"T{self._night}-{number}", self._day("2024", self._months), self._chance
             self._tickets.append(ticket)
             for line in range(1, 3):
                 card = f"C{chance.randrange(14)}" if number % 3 else ""
@@ -234,6 +250,15 @@ class Shop:
                 discount = [f"{chance.randrange(300) / 100:.2f}"] if self._is_upgraded else []
                 rows.append([ticket, str(line), day, *keys, str(chance.randrange(-3, 9)), *money, *discount])
         return _csv(rows)
+
+
+def _lines_of(report: str) -> list[Line]:
+    lines = []
+    for line in report.splitlines()[2:]:
+        # two spaces stand before the label, which may itself begin with one
+        found = re.fullmatch(r" *(\S+) +(\S+) +(\S+) +(\S+) +(\S+)  (.*)", line)
+        lines.append(Line(found[6], *found.groups()[:5]))
+    return lines
 
 
 def _csv(rows: list[list[str]]) -> str:

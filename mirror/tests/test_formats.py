@@ -64,26 +64,19 @@ class Format2(MirrorTest):
             self.assertEqual([(lines, quantity, *(it * 100 for it in money))], expected)
         self.assertEqual(ask(dsn, "SELECT sum(lines) FROM wh.sales_by_month"), [expected[0][:1]])
 
-    def nights(self, *more: str) -> None:
+    def test_nights(self) -> None:
         shop, dsn = self.shop_after_a_night(), new_database()
-        self.mirrors(shop.path, dsn, *more)
+        self.mirrors(shop.path, dsn)
         backup = Path(shop.path).read_bytes()
         for statements in (_MADE, _VOIDED, _SOLD):
             self.changed(shop, statements)
-            told = self.mirrors(shop.path, dsn, *more)
+            told = self.mirrors(shop.path, dsn)
             self.assert_mirrored(shop, dsn)
-        if not more:
-            self.assertEqual(
-                told, "command: 1 put, 0 changed, 0 removed\nfact2: 1 put, 0 changed, 0 removed\nmirrored: 8 commands\n"
-            )
+        self.assertEqual(
+            told, "command: 1 put, 0 changed, 0 removed\nfact2: 1 put, 0 changed, 0 removed\nmirrored: 8 commands\n"
+        )
         Path(shop.path).write_bytes(backup)
-        self.mirrors(shop.path, dsn, "--restored", *more)
+        self.mirrors(shop.path, dsn, "--restored")
         self.assert_same_tables(shop, dsn)
         self.assert_same_reports(shop, dsn)
         self.assertEqual(ask(dsn, "SELECT to_regclass('wh.fact2')::text, to_regclass('wh.void')::text"), [(None, None)])
-
-    def test_one_server(self) -> None:
-        self.nights()
-
-    def test_shards(self) -> None:
-        self.nights("--shards", f"{new_database(1)},{new_database(2)}")

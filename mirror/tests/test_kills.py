@@ -23,46 +23,33 @@ def kill_after(seconds: float, *words: str) -> bool:
 class Kills(MirrorTest):
     """Twenty kills of mirrors of nights, and some of the first one."""
 
-    def killed_nights(self, nights: int, *words: str) -> None:
+    def test_nights(self) -> None:
         """Each night's mirror is killed at some moment, and then runs to its end."""
-        chance = random.Random(nights)
-        shop = self.shop_after_a_night()
-        dsn, *more = words
-        took = seconds_of(lambda: run_mirror(shop.path, dsn, *more))
+        chance = random.Random(KILLS)
+        shop, dsn = self.shop_after_a_night(), new_database()
+        took = seconds_of(lambda: run_mirror(shop.path, dsn))
         killed = 0
-        for night in range(nights):
+        for night in range(KILLS):
             before = totals_of(shop)
             shop.night()
             after = totals_of(shop)
             with self.subTest(night=night):
-                killed += kill_after(chance.uniform(0.1, took), shop.path, dsn, *more)
+                killed += kill_after(chance.uniform(0.1, took), shop.path, dsn)
                 self.assertIn(ask(dsn, TOTALS)[0], (before, after))
-                took = seconds_of(lambda: run_mirror(shop.path, dsn, *more))
+                took = seconds_of(lambda: run_mirror(shop.path, dsn))
                 self.assertEqual(ask(dsn, TOTALS), [after])
         self.assert_same_tables(shop, dsn)
         self.assert_same_reports(shop, dsn)
-        self.assertGreater(killed, nights / 3)
+        self.assertGreater(killed, KILLS / 3)
 
-    def test_nights(self) -> None:
-        self.killed_nights(KILLS, new_database())
-
-    def test_nights_with_shards(self) -> None:
-        self.killed_nights(6, new_database(), "--shards", f"{new_database(1)},{new_database(2)}")
-
-    def killed_first(self, *words: str) -> None:
+    def test_first(self) -> None:
         """There is no schema, or the whole mirror."""
         chance, shop, dsn = random.Random(1), self.shop_after_a_night(), new_database()
         took = seconds_of(lambda: run_mirror(shop.path, new_database()))
         for _ in range(4):
-            kill_after(chance.uniform(0.2, took), shop.path, dsn, *words)
+            kill_after(chance.uniform(0.2, took), shop.path, dsn)
             there = ask(dsn, "SELECT count(*) FROM pg_class WHERE relnamespace = to_regnamespace('wh')")
             if there != [(0,)]:
                 self.assertEqual(ask(dsn, TOTALS), [totals_of(shop)])
-        self.mirrors(shop.path, dsn, *words)
+        self.mirrors(shop.path, dsn)
         self.assert_same_tables(shop, dsn)
-
-    def test_first(self) -> None:
-        self.killed_first()
-
-    def test_first_with_shards(self) -> None:
-        self.killed_first("--shards", f"{new_database(1)},{new_database(2)}")

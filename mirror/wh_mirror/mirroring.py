@@ -1,7 +1,8 @@
 """A mirror of a file in one schema of a server: what is copied, compared, written and noted, in one transaction."""
 
+from collections.abc import Callable
 from contextlib import closing
-from dataclasses import dataclass, replace
+from dataclasses import dataclass
 from functools import cached_property
 from pathlib import Path
 
@@ -10,11 +11,10 @@ from wh_mirror.faults import Failed, Refused
 from wh_mirror.note import LAYOUT, Note, make_note, read_note, write_note
 from wh_mirror.policy import Attribute
 from wh_mirror.progress import Progress
-from wh_mirror.server import Server
-from wh_mirror.shards import Shards, other_side
+from wh_mirror.server import Server, quoted
 from wh_mirror.star import Counts, Scope, Scopes, Star
-from wh_mirror.tables import NEWEST_FORMAT, sales_table_of, tables_after, tables_of
-from wh_mirror.views import View, digest_of, drop_views, make_views, views_of
+from wh_mirror.tables import sales_table_of, tables_after
+from wh_mirror.views import digest_of, drop_views, make_views, views_of
 from wh_mirror.warehouse import CommandList, Warehouse
 
 # What commands of these kinds change of the sales that are there follows from their records' members.
@@ -26,9 +26,9 @@ class Request:
     """What a run was asked for."""
 
     path: str
-    dsn: str
     schema: str
-    shards: tuple[str, ...] = ()
+    # whose schema it is: that of a single file belongs to itself
+    owner: str
     # compare all rows, also of what is only ever added to
     is_whole: bool = False
     # follow the file also where the mirror is ahead of it, or is of other commands
@@ -45,73 +45,81 @@ class Outcome:
     commands: int
 
 
-def mirror(request: Request, progress: Progress) -> Outcome:
+def mirror(request: Request, dsn: str, progress: Progress) -> Outcome:
     """Brings the mirror to the file. On any fault nothing is changed."""
+    with closing(Server(dsn, request.wait)) as server:
+        outcome = bring(request, server, progress)
+        server.commit()
+    return outcome
+
+
+def bring(
+    request: Request, server: Server, progress: Progress, before_drops: Callable[[], None] = lambda: None
+) -> Outcome:
+    """The same within a transaction of the server, which the caller commits.
+
+    The callable drops what others have made of the schema's tables; it is called where a table or a view is about to be
+    dropped, or gets partitions.
+    """
     if not Path(request.path).is_file():
         raise Failed(f"{request.path}: no such file")
-    with closing(Server(request.dsn, request.wait)) as server:
-        server.lock(request.schema)
-        note = read_note(server, request.schema)
-        if note is not None and note.shards != len(request.shards):
-            raise Refused(f"the mirror has {note.shards} shards, and {len(request.shards)} are given")
-        side = other_side(note.side) if note else "a"
-        with closing(Shards(server, request.schema, side, request.shards)) as shards:
-            return _Mirroring(request, server, note, shards, progress).run()
+    server.lock(request.schema)
+    note = read_note(server, request.schema)
+    # a chain takes over the mirror of a single file
+    if note is not None and note.owner not in (request.owner, request.schema):
+        raise Refused(f"the schema {request.schema} belongs to {note.owner}")
+    return _Mirroring(request, server, note, progress, before_drops).run()
 
 
 class _Mirroring:
     """One run, over an open connection to the mirror's server."""
 
     def __init__(
-        self, request: Request, server: Server, note: Note | None, shards: Shards, progress: Progress
+        self, request: Request, server: Server, note: Note | None, progress: Progress, before_drops: Callable[[], None]
     ) -> None:
         self._request = request
         self._server = server
         self._note = note
-        self._shards = shards
         self._progress = progress
+        self._before_drops = before_drops
         # whether the rows that were mirrored of what is only ever added to can stay as they are
         self._is_continued = note is not None and not request.is_whole and not request.is_restored
 
     def run(self) -> Outcome:
-        """Copies, compares, writes, notes and commits."""
+        """Copies, compares, writes and notes."""
         with closing(Warehouse(self._request.path, self._request.wait)) as warehouse:
             commands = warehouse.command_list(self._note.commands if self._note else 0)
             self._refuse_other_commands(commands)
             attributes = warehouse.policy()
             note = self._note_of(warehouse, commands, attributes)
-            if self._is_continued and note == self._note:
-                return self._keep(note, {})
             expected = warehouse.rows_expected(commands)
-            star = self._make_star(warehouse)
-            scopes = self._scopes(warehouse, commands, star)
-            star.copy(warehouse, scopes, self._progress)
-            if self._shards:
-                self._shards.connect(self._request.wait, warehouse.tables, self._comments)
-                self._shards.copy(warehouse, self._progress)
+            star = None
+            if note != self._note or not self._is_continued:
+                star = self._make_star(warehouse)
+                scopes = self._scopes(warehouse, commands, star)
+                star.copy(warehouse, scopes, self._progress)
+        counts = self._write(star, scopes, note, attributes) if star else {}
+        for name, rows in expected.items():
+            self._compare_count(name, rows)
+        write_note(self._server, self._request.schema, note)
+        return Outcome(counts, note.commands)
+
+    def _write(self, star: Star, scopes: Scopes, note: Note, attributes: list[Attribute]) -> dict[str, Counts]:
+        """Writes the rows that differ, and the views where their texts are others."""
+        schema = self._request.schema
         are_other_views = self._note is None or self._note.views != note.views
         if star.lacks_partitions():
             # a reader waits for a view before its tables, and so has a mirror to do
-            drop_views(self._server, self._request.schema)
+            self._drop_views()
             are_other_views = True
         counts = star.write(scopes, self._progress)
-        if self._shards:
-            own_views = views_of(self._shards.schema, note.format, attributes)
-            counts |= self._shards.write(note, own_views, self._progress)
-        for name, rows in expected.items():
-            self._compare_count(star, name, rows)
-        if self._shards:
-            self._shards.commit()
-            self._shards.show(views_of(self._request.schema, note.format, attributes), are_other_views)
-            note = replace(note, side=self._shards.side)
         if are_other_views:
-            make_views(self._server, self._request.schema, self._views(note.format, attributes))
-        return self._keep(note, counts)
+            make_views(self._server, schema, views_of(schema, note.format, attributes))
+        return counts
 
-    def _views(self, warehouse_format: int, attributes: list[Attribute]) -> list[View]:
-        """The views of the mirror's own server."""
-        views = views_of(self._request.schema, warehouse_format, attributes)
-        return self._shards.views(views) if self._shards else views
+    def _drop_views(self) -> None:
+        self._before_drops()
+        drop_views(self._server, self._request.schema)
 
     @cached_property
     def _comments(self) -> Comments:
@@ -134,27 +142,24 @@ class _Mirroring:
             )
 
     def _note_of(self, warehouse: Warehouse, commands: CommandList, attributes: list[Attribute]) -> Note:
-        """What the mirror will note of the file, while it shows the side that it shows."""
+        """What the mirror will note of the file."""
         return Note(
             layout=LAYOUT,
-            owner=self._request.schema,
+            owner=self._request.owner,
             format=warehouse.format,
             commands=commands.last,
             digest=commands.digest,
-            views=digest_of(self._views(warehouse.format, attributes)),
-            shards=len(self._request.shards),
-            side=self._note.side if self._note else "",
+            views=digest_of(views_of(self._request.schema, warehouse.format, attributes)),
         )
 
     def _make_star(self, warehouse: Warehouse) -> Star:
-        """The tables on the mirror's own server; the sales are not among them where there are shards."""
+        """The tables, of which those are made that aren't there; those of a newer format go."""
         schema = self._request.schema
         if self._note is None:
             make_note(self._server, schema)
-        tables = [table for table in warehouse.tables if not (table.is_sales and self._shards)]
-        star = Star(self._server, schema, tables, self._comments)
+        star = Star(self._server, schema, warehouse.tables, self._comments)
         if self._note is not None and self._note.format > warehouse.format:
-            drop_views(self._server, schema)
+            self._drop_views()
             star.drop_tables(tables_after(warehouse.format))
         star.make_tables()
         return star
@@ -171,6 +176,8 @@ class _Mirroring:
                 scopes[table.name] = Scope(is_new, is_new)
         if all(command.kind in _KINDS_WITH_RECORDS for command in commands.after(after)):
             touched = warehouse.touched_members(after)
+            # another file of the same transaction may have left its own
+            self._server.run("DROP TABLE IF EXISTS pg_temp.touched")
             self._server.run("CREATE TEMP TABLE touched (dim integer, durable integer) ON COMMIT DROP")
             self._server.insert("pg_temp.touched", touched)
             members = "SELECT durable FROM pg_temp.touched WHERE dim ="
@@ -181,10 +188,9 @@ class _Mirroring:
             )
         return scopes
 
-    def _compare_count(self, star: Star, name: str, rows: int) -> None:
+    def _compare_count(self, name: str, rows: int) -> None:
         """The commands say how many rows a table has: another number is told, whoever is to blame."""
-        table = next(table for table in tables_of(NEWEST_FORMAT) if table.name == name)
-        found = self._shards.count(table) if self._shards and table.is_sales else star.count(table)
+        found = self._server.value(f"SELECT count(*) FROM {quoted(self._request.schema)}.{quoted(name)}")
         if found == rows:
             return
         if self._is_continued:
@@ -192,8 +198,3 @@ class _Mirroring:
                 f"the mirror's table {name} has {found} rows, where the commands give {rows}; --whole compares them all"
             )
         raise Failed(f"{self._request.path}: damaged, {name} has {found} rows, where the commands give {rows}")
-
-    def _keep(self, note: Note, counts: dict[str, Counts]) -> Outcome:
-        write_note(self._server, self._request.schema, note)
-        self._server.commit()
-        return Outcome(counts, note.commands)

@@ -8,7 +8,7 @@ from dataclasses import astuple, dataclass, fields
 from wh_mirror.faults import Refused
 from wh_mirror.server import Server, comment_on, listed, quoted
 
-LAYOUT = 1
+LAYOUT = 2
 
 _TYPES = {int: "integer", str: "text", bytes: "bytea"}
 
@@ -19,7 +19,7 @@ class Note:
 
     # of the mirror's own tables and views
     layout: int
-    # whose mirror it is: the schema itself, or of a shard the mirror that it belongs to
+    # whose mirror it is: the schema itself, or a chain
     owner: str
     # of the file
     format: int
@@ -28,9 +28,6 @@ class Note:
     digest: bytes
     # a digest of the texts that made the views
     views: bytes
-    shards: int
-    # which of the two copies on each shard is shown: `a` or `b`, or nothing without shards
-    side: str
 
 
 _NAMES = tuple(field.name for field in fields(Note))
@@ -49,12 +46,15 @@ def read_note(server: Server, schema: str) -> Note | None:
         "SELECT attname FROM pg_catalog.pg_attribute WHERE attnum > 0 AND attrelid = to_regclass(%s) ORDER BY attnum",
         (f"{quoted(schema)}.mirror",),
     )
-    if tuple(name for (name,) in columns) != (*_NAMES, "mirrored_at"):
+    names = tuple(name for (name,) in columns)
+    if not {"layout", "mirrored_at"} <= set(names):
         raise Refused(f"the schema {schema} is there, and isn't a mirror's")
-    rows = server.rows(f"SELECT {listed(_NAMES)} FROM {quoted(schema)}.mirror")
-    if len(rows) != 1 or rows[0][0] != LAYOUT:
-        raise Refused(f"the schema {schema} is a mirror's of another layout than {LAYOUT}, or has no note")
-    return Note(*rows[0])
+    rows = server.rows(f"SELECT * FROM {quoted(schema)}.mirror WHERE layout = {LAYOUT}")
+    if len(rows) != 1 or names != (*_NAMES, "mirrored_at"):
+        raise Refused(
+            f"the schema {schema} is a mirror's of another layout than {LAYOUT}, or has no note; drop it to mirror anew"
+        )
+    return Note(*rows[0][:-1])
 
 
 def make_note(server: Server, schema: str) -> None:

@@ -8,12 +8,22 @@ only these are written.
 import re
 from collections.abc import Iterable, Iterator
 from dataclasses import dataclass
+from typing import Protocol
 
 from wh_mirror.comments import Comments
 from wh_mirror.progress import Progress
 from wh_mirror.server import Server, comment_on, listed, quoted
 from wh_mirror.tables import Kind, Table
-from wh_mirror.warehouse import Warehouse
+
+
+class Source(Protocol):
+    """What tables are copied from: a warehouse's file, or for a chain what another mirror has."""
+
+    def months(self) -> list[int]:
+        """The months of the sales, as YYYYMM."""
+
+    def copy_lines(self, table: Table, condition: str) -> Iterator[tuple[int, bytes]]:
+        """The rows of a table for which a condition holds, some at a time: how many, and as text for COPY."""
 
 
 @dataclass(frozen=True)
@@ -24,16 +34,8 @@ class Counts:
     changed: int
     removed: int
 
-    def __add__(self, other: "Counts") -> "Counts":
-        return Counts(self.put + other.put, self.changed + other.changed, self.removed + other.removed)
-
 
 NOTHING = Counts(0, 0, 0)
-
-
-def total(counts: Iterable[Counts]) -> Counts:
-    """The sum of some counts."""
-    return sum(counts, NOTHING)
 
 
 @dataclass(frozen=True)
@@ -50,25 +52,6 @@ EVERYTHING = Scope()
 Scopes = dict[str, Scope]
 
 
-@dataclass(frozen=True)
-class Share:
-    """Which months a star holds: all of them, or on a shard every so many-th."""
-
-    number: int = 0
-    of: int = 1
-
-    def holds(self, month: int) -> bool:
-        """Whether a month, as YYYYMM, belongs to it."""
-        return (month // 100 * 12 + month % 100) % self.of == self.number
-
-    def condition(self) -> str:
-        """The same of the day of a sale, in SQL."""
-        return f"(day / 10000 * 12 + day / 100 % 100) % {self.of} = {self.number}" if self.of > 1 else "true"
-
-
-EVERY_MONTH = Share()
-
-
 def partition_of(table: str, month: int) -> str:
     """The name of the partition with the sales of a month, which is YYYYMM."""
     return f"{table}_{month // 100:04}_{month % 100:02}"
@@ -82,14 +65,11 @@ def bounds_of(month: int) -> str:
 class Star:
     """Tables in a schema."""
 
-    def __init__(
-        self, server: Server, schema: str, tables: Iterable[Table], comments: Comments, share: Share = EVERY_MONTH
-    ) -> None:
+    def __init__(self, server: Server, schema: str, tables: Iterable[Table], comments: Comments) -> None:
         self.server = server
         self.schema = schema
         self.tables = tuple(tables)
         self._comments = comments
-        self._share = share
         self._made: list[Table] = []
         self._months: list[int] = []
 
@@ -102,7 +82,7 @@ class Star:
         return {
             name
             for (name,) in self.server.rows(
-                "SELECT relname FROM pg_catalog.pg_class WHERE relkind IN ('r', 'p', 'v', 'f')"
+                "SELECT relname FROM pg_catalog.pg_class WHERE relkind IN ('r', 'p', 'v')"
                 " AND relnamespace = (SELECT oid FROM pg_catalog.pg_namespace WHERE nspname = %s)",
                 (self.schema,),
             )
@@ -116,10 +96,6 @@ class Star:
             keys = [f"PRIMARY KEY ({listed(table.mirror_key)})"]
             keys += [f"UNIQUE ({listed(names)}) DEFERRABLE INITIALLY DEFERRED" for names in table.unique]
             self._make_table(table, keys)
-
-    def make_parent(self, table: Table) -> None:
-        """Makes a table of sales whose partitions stand on other servers, so that no key can be declared."""
-        self._make_table(table, [])
 
     def _make_table(self, table: Table, keys: list[str]) -> None:
         place = self.place(table.name)
@@ -151,8 +127,7 @@ class Star:
 
     def _missing_months(self, table: Table) -> list[int]:
         there = self.relations()
-        months = filter(self._share.holds, self._months)
-        return [month for month in months if partition_of(table.name, month) not in there]
+        return [month for month in self._months if partition_of(table.name, month) not in there]
 
     def _make_partitions(self, table: Table) -> None:
         """Makes the partitions that aren't there.
@@ -176,9 +151,9 @@ class Star:
                     f" REFERENCES {self.place(key.table)} ({listed(key.target)})"
                 )
 
-    def copy(self, warehouse: Warehouse, scopes: Scopes, progress: Progress) -> None:
-        """Copies the rows of the file to the server."""
-        self._months = warehouse.months()
+    def copy(self, source: Source, scopes: Scopes, progress: Progress) -> None:
+        """Copies the rows of a file to the server."""
+        self._months = source.months()
         for table in self.tables:
             place = self.place(table.name)
             if table in self._made:
@@ -189,13 +164,11 @@ class Star:
                 target = _staged(table)
                 self.server.run(f"CREATE TEMP TABLE {target} (LIKE {place} INCLUDING STORAGE) ON COMMIT DROP")
             condition = scopes.get(table.name, EVERYTHING).in_file
-            if table.is_sales:
-                condition = f"({condition}) AND {self._share.condition()}"
-            self.server.copy(target, table.names, self._lines(warehouse, table, condition, progress))
+            self.server.copy(target, table.names, self._lines(source, table, condition, progress))
 
-    def _lines(self, warehouse: Warehouse, table: Table, condition: str, progress: Progress) -> Iterator[bytes]:
+    def _lines(self, source: Source, table: Table, condition: str, progress: Progress) -> Iterator[bytes]:
         copied = 0
-        for many, some in warehouse.copy_lines(table, condition):
+        for many, some in source.copy_lines(table, condition):
             yield some
             copied += many
             progress.show(f"{table.name}: {copied:,} rows read")
@@ -215,6 +188,8 @@ class Star:
             self._put_and_change(table, counts[table.name])
         for table in reversed(self.tables):
             self._remove(table, counts[table.name])
+            # the next file of the same transaction has differences of its own
+            self.server.run(f"DROP TABLE IF EXISTS {_difference(table)}")
         self._finish_tables()
         for table in self.tables:
             if counts[table.name] != NOTHING and self._has_grown(table):
@@ -230,7 +205,8 @@ class Star:
         counted = self.server.value(
             "SELECT reltuples FROM pg_catalog.pg_class WHERE oid = to_regclass(%s)", (self.place(table.name),)
         )
-        return self.count(table) > counted * 1.2
+        # the making of an index has counted the rows of a new table, and looked at nothing else
+        return table in self._made or self.count(table) > counted * 1.2
 
     def _compare(self, table: Table, scope: Scope) -> Counts:
         """Finds the rows that differ, and answers how many; nothing is written yet."""

@@ -1,17 +1,31 @@
 """The views for those who don't know surrogate keys: one wide row a sale, and one row a month."""
 
 import hashlib
-from collections.abc import Callable, Iterable
+from collections.abc import Iterable
 from dataclasses import dataclass
+from enum import StrEnum
 
 from wh_mirror.policy import Attribute, Dimension
 from wh_mirror.server import Server, comment_on, quoted
 from wh_mirror.tables import sales_table_of
 
-VIEWS = ("sales_as_was", "sales_as_is", "sales_by_month")
+# What the views are, by what follows `sales_` in their names.
+COMMENTS = {
+    "as_was": "one row a sale, with what held on its day",
+    "as_is": "one row a sale, with what holds now",
+    "by_month": "what was sold, one row a month",
+}
 
+TEXT = 'text COLLATE "C"'
 _MONEY = "numeric(12, 2)"
 _SUM_OF_MONEY = "numeric(20, 2)"
+
+
+class Reading(StrEnum):
+    """Whose values a row a sale has: those of its day, or those of now."""
+
+    AS_WAS = "as_was"
+    AS_IS = "as_is"
 
 
 @dataclass(frozen=True)
@@ -34,7 +48,8 @@ class View:
     question: str
 
 
-def _question(columns: tuple[ViewColumn, ...], source: str) -> str:
+def question_of(columns: Iterable[ViewColumn], source: str) -> str:
+    """What asks a source for the columns."""
     shown = ", ".join(f"({it.expression})::{it.type} AS {quoted(it.name)}" for it in columns)
     return f"SELECT {shown} FROM {source}"
 
@@ -73,32 +88,35 @@ def _as_is(attribute: Attribute) -> list[ViewColumn]:
 def _attribute_column(prefix: str, attribute: Attribute, expression: str, when: str) -> ViewColumn:
     return ViewColumn(
         f"{prefix}{attribute.dimension}_{attribute.name}",
-        'text COLLATE "C"',
+        TEXT,
         expression,
         f"{attribute.name} of the {attribute.dimension} (type {attribute.type}): {when}",
     )
 
 
-_DAY_COLUMNS = (
-    ViewColumn("ticket", 'text COLLATE "C"', "fact.ticket", "the ticket"),
+DAY_COLUMNS = (
+    ViewColumn("ticket", TEXT, "fact.ticket", "the ticket"),
     ViewColumn("line", "integer", "fact.line", "the line of the ticket"),
     ViewColumn("day", "integer", "fact.day", "the day of sale, YYYYMMDD; months that it leaves out are not read"),
     ViewColumn(
         "sale_date", "date", "make_date(calendar.year, calendar.month, calendar.day)", "the day of sale, as a date"
     ),
-    ViewColumn("month", 'text COLLATE "C"', "left(calendar.iso, 7)", "the month of sale, YYYY-MM"),
-    ViewColumn("weekday", 'text COLLATE "C"', "calendar.weekday_name", "the name of the weekday"),
+    ViewColumn("month", TEXT, "left(calendar.iso, 7)", "the month of sale, YYYY-MM"),
+    ViewColumn("weekday", TEXT, "calendar.weekday_name", "the name of the weekday"),
     ViewColumn("is_weekend", "boolean", "calendar.weekend = 1", "whether it was a Saturday or Sunday"),
-    ViewColumn("holiday", 'text COLLATE "C"', "calendar.holiday", "the holiday, or (none)"),
+    ViewColumn("holiday", TEXT, "calendar.holiday", "the holiday, or (none)"),
 )
 
 
-def _natural_key(dimension: Dimension) -> ViewColumn:
+def natural_key(dimension: Dimension) -> ViewColumn:
+    """The column by which a view names a member."""
     comment = f"the natural key of the {dimension}" + (", or (no card)" if dimension is Dimension.CUSTOMER else "")
-    return ViewColumn(dimension.value, 'text COLLATE "C"', f"{dimension}.{quoted('natural')}", comment)
+    return ViewColumn(dimension.value, TEXT, f"{dimension}.{quoted('natural')}", comment)
 
 
-def _measures(warehouse_format: int) -> tuple[ViewColumn, ...]:
+def measures_of(warehouse_format: int) -> tuple[ViewColumn, ...]:
+    """The figures of a sale; the discount belongs to format 2."""
+
     def money(name: str, expression: str, comment: str) -> ViewColumn:
         return ViewColumn(name, _MONEY, f"({expression}) / 100.0", comment)
 
@@ -138,24 +156,41 @@ def _with_current_rows(schema: str) -> str:
     return f"{''.join(joins)} JOIN {quoted(schema)}.profile AS profile ON profile.number = customer.profile_now"
 
 
-def _dimension_columns(
-    attributes: list[Attribute], read: Callable[[Attribute], list[ViewColumn]]
+def attribute_columns(
+    attributes: Iterable[Attribute], dimension: Dimension, reading: Reading
 ) -> list[ViewColumn]:
-    columns = []
+    """The columns of a dimension's attributes, but for its natural key."""
+    read = _as_was if reading is Reading.AS_WAS else _as_is
+    return [column for it in attributes if it.dimension is dimension for column in read(it)]
+
+
+def columns_of(
+    policies: Iterable[Iterable[Attribute]], warehouse_format: int, reading: Reading
+) -> tuple[ViewColumn, ...]:
+    """The columns under one policy or several; what several name alike is described as in the first one."""
+    kept = [list(attributes) for attributes in policies]
+    columns = list(DAY_COLUMNS)
     for dimension in Dimension:
-        columns.append(_natural_key(dimension))
-        for attribute in attributes:
-            if attribute.dimension is dimension:
-                columns += read(attribute)
-    return columns
+        named: dict[str, ViewColumn] = {}
+        for attributes in kept:
+            for column in attribute_columns(attributes, dimension, reading):
+                named.setdefault(column.name, column)
+        columns += [natural_key(dimension), *named.values()]
+    return (*columns, *measures_of(warehouse_format))
+
+
+def source_of(schema: str, warehouse_format: int, reading: Reading) -> str:
+    """The sales of a schema, with the rows that hold the values."""
+    rows = _with_rows_of_the_day(schema) if reading is Reading.AS_WAS else _with_current_rows(schema)
+    return _sales_with_days(schema, warehouse_format) + rows
 
 
 def _summed(name: str, expression: str, comment: str) -> ViewColumn:
     return ViewColumn(name, _SUM_OF_MONEY, f"sum({expression}) / 100.0", comment)
 
 
-_MONTH_COLUMNS = (
-    ViewColumn("month", 'text COLLATE "C"', "left(calendar.iso, 7)", "the month of sale, YYYY-MM"),
+MONTH_COLUMNS = (
+    ViewColumn("month", TEXT, "left(calendar.iso, 7)", "the month of sale, YYYY-MM"),
     ViewColumn("lines", "bigint", "count(*)", "how many lines of tickets"),
     ViewColumn("quantity", "bigint", "sum(fact.quantity)", "pieces"),
     _summed("amount", "fact.amount", "what was paid"),
@@ -166,30 +201,17 @@ _MONTH_COLUMNS = (
 
 def views_of(schema: str, warehouse_format: int, attributes: list[Attribute]) -> list[View]:
     """The views over the tables of a schema, under a policy."""
-    sales = _sales_with_days(schema, warehouse_format)
-    measures = _measures(warehouse_format)
-    was = (*_DAY_COLUMNS, *_dimension_columns(attributes, _as_was), *measures)
-    now = (*_DAY_COLUMNS, *_dimension_columns(attributes, _as_is), *measures)
+    months = question_of(MONTH_COLUMNS, _sales_with_days(schema, warehouse_format)) + " GROUP BY left(calendar.iso, 7)"
     return [
-        View(
-            "sales_as_was",
-            "one row a sale, with what held on its day",
-            was,
-            _question(was, sales + _with_rows_of_the_day(schema)),
-        ),
-        View(
-            "sales_as_is",
-            "one row a sale, with what holds now",
-            now,
-            _question(now, sales + _with_current_rows(schema)),
-        ),
-        View(
-            "sales_by_month",
-            "what was sold, one row a month",
-            _MONTH_COLUMNS,
-            _question(_MONTH_COLUMNS, sales) + " GROUP BY left(calendar.iso, 7)",
-        ),
+        *(_sales_view(schema, warehouse_format, attributes, reading) for reading in Reading),
+        View("sales_by_month", COMMENTS["by_month"], MONTH_COLUMNS, months),
     ]
+
+
+def _sales_view(schema: str, warehouse_format: int, attributes: list[Attribute], reading: Reading) -> View:
+    columns = columns_of([attributes], warehouse_format, reading)
+    question = question_of(columns, source_of(schema, warehouse_format, reading))
+    return View(f"sales_{reading}", COMMENTS[reading], columns, question)
 
 
 def digest_of(views: Iterable[View]) -> bytes:
@@ -197,18 +219,23 @@ def digest_of(views: Iterable[View]) -> bytes:
     return hashlib.sha256("\n".join(map(repr, views)).encode()).digest()
 
 
-def drop_views(server: Server, schema: str) -> None:
+def drop_views(server: Server, schema: str, prefix: str = "sales") -> None:
     """Drops the views that are there."""
-    for name in VIEWS:
-        server.run(f"DROP VIEW IF EXISTS {quoted(schema)}.{name}")
+    for kind in COMMENTS:
+        server.run(f"DROP VIEW IF EXISTS {quoted(schema)}.{prefix}_{kind}")
 
 
 def make_views(server: Server, schema: str, views: list[View]) -> None:
     """Makes the views anew. Readers of the old ones are waited for."""
     drop_views(server, schema)
     for view in views:
-        place = f"{quoted(schema)}.{quoted(view.name)}"
-        server.run(f"CREATE VIEW {place} AS {view.question}")
-        comment_on(server, f"VIEW {place}", view.comment)
-        for column in view.columns:
-            comment_on(server, f"COLUMN {place}.{quoted(column.name)}", column.comment)
+        put_view(server, schema, view)
+
+
+def put_view(server: Server, schema: str, view: View) -> None:
+    """Makes a view, also in the place of one with the same columns, which others may stand on."""
+    place = f"{quoted(schema)}.{quoted(view.name)}"
+    server.run(f"CREATE OR REPLACE VIEW {place} AS {view.question}")
+    comment_on(server, f"VIEW {place}", view.comment)
+    for column in view.columns:
+        comment_on(server, f"COLUMN {place}.{quoted(column.name)}", column.comment)
