@@ -23,7 +23,7 @@ A line for each table tells how many rows were put, changed and removed; the las
 mirrored. Where nothing is new it is the only one. In a chain each line begins with the schema of its file.
 
 exit status:
-  0  the mirror shows what the file holds
+  0  the mirror shows what the file holds; where others may have written to it, only --whole makes sure of that
   2  refused: what stands on the server isn't to be overwritten, or the program of --check found the file wrong
   3  failed: the file can't be read or isn't a warehouse, or a server isn't there or refused a statement
   4  error: the words are no command
