@@ -13,11 +13,11 @@ import sys
 from pathlib import Path
 
 ROOT = Path(__file__).resolve().parent.parent
-FOLDERS = "bench|crates|docs|examples|mirror|tests|tools"
+FOLDERS = "bench|crates|docs|examples|mirror|tests|tools|web"
 LINK = re.compile(r"\[[^\]\n]*\]\(([^)\s]+)\)")
 PATH = re.compile(rf"(?<![\w/.-])((?:{FOLDERS})/[\w./*-]*[\w*/])(#[\w-]+)?")
 NAMED = re.compile(r"`(?:[\w-]+/)*([\w-]+\.(?:antt|md|py|rt|sh))`")
-PAGE = re.compile(r"\b(?:docs/\w+|(?:bench|mirror)/README)\.md(#[\w-]+)?")
+PAGE = re.compile(r"\b(?:docs/\w+|(?:bench|mirror|web)/README)\.md(#[\w-]+)?")
 PLACEHOLDER = re.compile(r"(?:^|/)(?:NAME|CRATE|FOLDER)(?:[./]|$)")
 FILES = subprocess.run(["git", "ls-files"], cwd=ROOT, capture_output=True, text=True, check=True).stdout.split("\n")[:-1]
 NAMES = {Path(it).name for it in FILES}
