@@ -4,7 +4,7 @@ ghost use Rattle.std.specs.Prelude.{◌≡◌, ◌≤◌, IsTrue, IfOk, OnErr, l
 
 use sqlite::{Alter, Connection, Error, ErrorCode, FileStore, Files, Options, Unknown};
 use sqlite_disk::Disk;
-use sqlite_std_file::OpenError;
+use sqlite_std_file::{self as std_file, OpenError};
 use std::alloc::Global;
 use std::fs::{self, File};
 use std::hash::{BuildHasher, RandomState};
@@ -27,16 +27,70 @@ const FEW_PAGES: usize = 8192;
 /// How many pages a file has room for to grow.
 const SPARE_PAGES: u64 = 500;
 
-/// The files of the system.
+type Warehouse = Connection<FileStore<std_file::File>>;
+
+/// A connection that stays open, with the name of its file.
+#[derive(Drop)]
+struct KeptWarehouse {
+    name: String,
+    connection: Warehouse,
+}
+
+/// The files of the system. The connection of the last visit stays open for the next one under its name, unless the store refused a call.
 #[derive(Drop)]
 pub struct SystemHost<'a> {
     runtime: &'a HostRuntime,
+    kept: Option<KeptWarehouse>,
 }
 
 impl<'a> SystemHost<'a> {
     pub fn new(runtime: &'a HostRuntime) -> SystemHost<'a> {
-        SystemHost { runtime }
+        SystemHost {
+            runtime,
+            kept: None,
+        }
     }
+
+    /// Closes the connection that is open.
+    pub fn close(self) {
+        if let Some(kept) = self.kept {
+            close(kept.connection);
+        }
+    }
+
+    /// Whether the connection to the file of this name is open.
+    fn keeps(&self, name: &str) -> bool {
+        match &self.kept {
+            Some(kept) => kept.name.as_str() == name,
+            None => false,
+        }
+    }
+
+    /// The connection to the file of this name: the one that is open, or a new one. One to another file is closed first.
+    fn connection(&mut self, alloc: Global, name: &str) -> Result<Warehouse, HostError> {
+        let keeps = self.keeps(name);
+        match self.kept.take() {
+            Some(kept) if keeps => Ok(kept.connection),
+            Some(kept) => {
+                close(kept.connection);
+                opened(self.runtime, alloc, name)
+            }
+            None => opened(self.runtime, alloc, name),
+        }
+    }
+
+    /// Keeps a connection open. Where there is no memory for its name, it is closed.
+    fn keep(&mut self, alloc: Global, name: &str, connection: Warehouse) {
+        match String::from_str(alloc, name) {
+            Ok(name) => self.kept = Some(KeptWarehouse { name, connection }),
+            Err(_) => close(connection),
+        }
+    }
+}
+
+fn close(connection: Warehouse) {
+    // What was committed is in the files already, so a failure here loses nothing.
+    let _ = connection.close();
 }
 
 /// Why a file was not read.
@@ -83,19 +137,6 @@ fn options_for(runtime: &HostRuntime, name: &str) -> Result<Options, HostError> 
     })
 }
 
-/// What a visitor answers over a connection, which is then closed.
-fn visited<D: Disk + Drop, V: Visitor, W: Write>(
-    alloc: Global,
-    connection: Connection<FileStore<D>>,
-    visitor: V,
-    out: &mut W,
-) -> V::Output {
-    let (output, connection) = visitor.visit(alloc, connection, out);
-    // What was committed is in the files already, so a failure here loses nothing.
-    let _ = connection.close();
-    output
-}
-
 /// The database in two files that an open gave back for lack of memory. Fewer of its pages stay in memory.
 fn connected_with_few<D: Disk + Drop>(
     alloc: Global,
@@ -134,37 +175,12 @@ fn connected<D: Disk + Drop>(
     }
 }
 
-/// What a visitor answers over the database in two files, on whatever disk they lie, which is then closed.
-fn on_files<D: Disk + Drop, V: Visitor, W: Write>(
-    alloc: Global,
-    files: Files<D>,
-    options: Options,
-    visitor: V,
-    out: &mut W,
-) -> Result<V::Output, HostError>
-    requires log { IsTrue (D.Disk.is_usable files.log) }
-    requires db { IsTrue (D.Disk.is_usable files.db) }
-    ensures not_printed { OnErr result (W.contents out.new ≡ W.contents out.old) }
-{
-    let connection = connected(alloc, files, options)?;
-    Ok(visited(alloc, connection, visitor, out))
-}
-
-/// What a visitor answers over the database in a file, or in a new one of that name, whose pages get no check sums: the `sqlite3` program
-/// can write it too.
-fn on_database<V: Visitor, W: Write>(
-    runtime: &HostRuntime,
-    alloc: Global,
-    name: &str,
-    visitor: V,
-    out: &mut W,
-) -> Result<V::Output, HostError>
-    ensures not_printed { OnErr result (W.contents out.new ≡ W.contents out.old) }
-{
+/// The database in a file, or in a new one of that name, whose pages get no check sums: the `sqlite3` program can write it too.
+fn opened(runtime: &HostRuntime, alloc: Global, name: &str) -> Result<Warehouse, HostError> {
     let options = options_for(runtime, name)?;
     // `Unknown` says nothing of what the file holds, and supposes that a torn write leaves each byte old or new.
-    match sqlite_std_file::open(runtime, name, Unknown) {
-        Ok(files) => on_files(alloc, files, options, visitor, out),
+    match std_file::open(runtime, name, Unknown) {
+        Ok(files) => connected(alloc, files, options),
         Err(error) => Err(of_opening(error)),
     }
 }
@@ -176,7 +192,7 @@ fn visited_once<S: Alter + Drop, V: Visitor, W: Write>(
     visitor: V,
     out: &mut W,
 ) -> V::Output {
-    let (output, _) = visitor.visit(alloc, connection, out);
+    let (output, _, _) = visitor.visit(alloc, connection, out);
     output
 }
 
@@ -249,7 +265,13 @@ impl Host for SystemHost<'_> {
         visitor: V,
         out: &mut W,
     ) -> Result<V::Output, HostError> {
-        on_database(self.runtime, alloc, name, visitor, out)
+        let connection = self.connection(alloc, name)?;
+        let (output, connection, must_reopen) = visitor.visit(alloc, connection, out);
+        match must_reopen {
+            true => close(connection),
+            false => self.keep(alloc, name, connection),
+        }
+        Ok(output)
     }
 
     fn with_existing<V: Visitor, W: Write>(
@@ -259,6 +281,9 @@ impl Host for SystemHost<'_> {
         visitor: V,
         out: &mut W,
     ) -> Result<V::Output, HostError> {
+        if self.keeps(name) {
+            return self.with_connection(alloc, name, visitor, out);
+        }
         match can_be_database(self.runtime, alloc, name) {
             Ok(true) => self.with_connection(alloc, name, visitor, out),
             Ok(false) => on_nothing(alloc, visitor, out),

@@ -10,6 +10,8 @@ pub mod Laws
 pub mod Layouts
 pub mod Lines
 pub mod Manifest
+pub mod Mode
 pub mod Numbers
+pub mod QueryWords
 pub mod ReportList
 pub mod Rows

@@ -31,6 +31,13 @@ fn read_digits(most: usize, text: &[u8]) -> Option<u32>
     Some(number)
 }
 
+/// The number that one up to nine digits write, and nothing else with them.
+pub fn read_number(text: &[u8]) -> Option<u32>
+    ensures { result ≡ read_digits 9 text.now }
+{
+    read_digits(9, text)
+}
+
 #[tactic(auto, unfolding(crate::specs::Numbers::read_fraction))]
 fn read_fraction(text: &[u8]) -> Option<u32>
     ensures value { result ≡ read_fraction text.now }

@@ -28,3 +28,4 @@ pub mod Repeating
 pub mod Keeping
 pub mod Outcomes
 pub mod Previewing
+pub mod CarriedMembers

@@ -13,4 +13,6 @@ pub mod Handed
 pub mod Outcome
 pub mod Writing
 pub mod Tallied
+pub mod Links
+pub mod Carried
 pub mod Previewed

@@ -2,6 +2,7 @@
 #![tactic(auto)]
 
 mod admission;
+mod carried;
 mod counts;
 mod decision;
 mod delivery;
@@ -9,6 +10,7 @@ mod engine;
 mod fault;
 mod fresh;
 pub mod laws;
+mod links;
 mod making;
 mod opening;
 mod planning;
@@ -31,5 +33,6 @@ pub use reopen::{NotReopened, deliver_again, redeliver, restart};
 pub use scan::Scan;
 pub use wh_admission::{Command, Limit, Receipt, Refusal, Reply};
 pub use wh_batch::CommandKind;
+pub use wh_records::Part;
 pub use wh_store::OpenFault;
 pub use write::write_edits;

@@ -154,8 +154,8 @@ impl DimensionShape<'_> {
         Ok(keys_with(self.dim, own, fact.keys))
     }
 
-    /// A fact of a member with its new keys, if they are others than it has.
-    fn rekeyed_fact(
+    /// A fact of a member with its new keys, if they are others than it has. The error comes where memory ran out.
+    pub fn rekeyed_fact(
         &self,
         alloc: Global,
         member: &RenderedRows,
@@ -182,8 +182,8 @@ impl DimensionShape<'_> {
         }))
     }
 
-    /// The facts among a member's whose keys change, with their new keys, in their order. The error comes where memory ran out.
-    pub fn rekeyed_facts(
+    /// The facts among a member's whose keys change, with their new keys, in their order.
+    pub(crate) fn rekeyed_facts(
         &self,
         alloc: Global,
         member: &RenderedRows,

@@ -1,7 +1,8 @@
 -- All members of a dimension, by their durable keys.
-use Rattle.std.proofs.Common.{◌≡◌, ℕ, true, zero, suc, ◌<◌, ◌≤◌, List, [], ◌∷◌, ◌++◌, map, take, length, Option, Some, None, refl, sym, ◌∙◌, ap, arith}
+use Rattle.std.proofs.Common.{◌≡◌, ℕ, true, zero, suc, ◌<◌, ◌≤◌, List, [], ◌∷◌, ◌++◌, map, take, drop, length, Option, Some, None, refl, sym, ◌∙◌, ap, arith}
 use Rattle.std.specs.Prelude.{bytes_eq, option_map}
 use Rattle.std.specs.Option.{option_to_list}
+use Rattle.std.proofs.lemmas.List.{map-append}
 use Rattle.std.proofs.lemmas.Slice.Eq.{bytes_eq-Decides}
 use Rattle.wh_policy.specs.declared.attribute.Dim.{Dim}
 use Rattle.wh_policy.specs.declared.policy.Policy.{Policy}
@@ -57,16 +58,37 @@ module _ (dim : Dim) (commands : List Accepted) where
         | Some natural ↦ λ some. let row = member_is commands dim durable natural some in absurd cc
       ] refl
 
-  -- one durable key further
-  pub next_member : (n : ℕ) (found : List Member) (o : Option Member) → found ≡ map (member_of dim commands) (take n (members dim commands)) → o ≡ option_map (member_of dim commands) (at_place (suc n) (members dim commands))
-      → found ++ option_to_list o ≡ map (member_of dim commands) (take (suc n) (members dim commands))
-  next_member n found o so_far is = rw (so_far, is) (further n (members dim commands))
+  -- one durable key further, of those past a number
+  pub next_between : (after n : ℕ) (found : List Member) (o : Option Member) → after ≤ n → found ≡ map (member_of dim commands) (drop after (take n (members dim commands))) → o ≡ option_map (member_of dim commands) (at_place (suc n) (members dim commands))
+      → found ++ option_to_list o ≡ map (member_of dim commands) (drop after (take (suc n) (members dim commands)))
+  next_between after n found o le so_far is =
+      ap (λ ms. ms ++ option_to_list o) so_far
+      ∙ ap (λ (p : Option Member). map (member_of dim commands) (drop after (take n (members dim commands))) ++ option_to_list p) is
+      ∙ ap (λ ms. map (member_of dim commands) (drop after (take n (members dim commands))) ++ ms) (listed (at_place (suc n) (members dim commands)))
+      ∙ sym (map-append (member_of dim commands) (drop after (take n (members dim commands))) (option_to_list (at_place (suc n) (members dim commands))))
+      ∙ ap (map (member_of dim commands)) (sym (past_more after n (members dim commands) le))
     where
-      further : (n : ℕ) (ns : List (List ℕ)) → map (member_of dim commands) (take n ns) ++ option_to_list (option_map (member_of dim commands) (at_place (suc n) ns)) ≡ map (member_of dim commands) (take (suc n) ns)
-      further zero [] = refl
-      further (suc n) [] = refl
-      further zero (natural ∷ ns) = refl
-      further (suc n) (natural ∷ ns) = ap (λ ms. member_of dim commands natural ∷ ms) (further n ns)
+      listed : (p : Option (List ℕ)) → option_to_list (option_map (member_of dim commands) p) ≡ map (member_of dim commands) (option_to_list p)
+      listed None = refl
+      listed (Some natural) = refl
+
+      one_more : (n : ℕ) (ns : List (List ℕ)) → take (suc n) ns ≡ take n ns ++ option_to_list (at_place (suc n) ns)
+      one_more zero [] = refl
+      one_more (suc n) [] = refl
+      one_more zero (natural ∷ ns) = refl
+      one_more (suc n) (natural ∷ ns) = ap (λ ms. natural ∷ ms) (one_more n ns)
+
+      past_more : (after n : ℕ) (ns : List (List ℕ)) → after ≤ n → drop after (take (suc n) ns) ≡ drop after (take n ns) ++ option_to_list (at_place (suc n) ns)
+      past_more zero n ns le = one_more n ns
+      past_more (suc after) zero ns le = absurd (omega arith)
+      past_more (suc after) (suc n) [] le = refl
+      past_more (suc after) (suc n) (natural ∷ ns) le = past_more after n ns (omega arith)
+
+-- none stands past as many as there are
+pub none_between : {X : Type 0} (n : ℕ) (xs : List X) → drop n (take n xs) ≡ []
+none_between zero xs = refl
+none_between (suc n) [] = refl
+none_between (suc n) (x ∷ xs) = none_between n xs
 
 pub taken_all : {X : Type 0} (n : ℕ) (xs : List X) → length xs ≤ n → take n xs ≡ xs
 taken_all zero [] within = refl

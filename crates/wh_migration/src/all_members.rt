@@ -1,6 +1,6 @@
 //! All members of a warehouse, with the types that a policy gives the slots of their dimensions.
 
-ghost use Rattle.std.specs.Prelude.{◌≡◌, ◌++◌, ◌∷◌, [], map, option_map, take, IfOk, OnOk};
+ghost use Rattle.std.specs.Prelude.{◌≡◌, ◌≤◌, ◌++◌, ◌∷◌, [], drop, map, option_map, take, IfOk, OnOk};
 ghost use Rattle.std.specs.Option.{option_to_list};
 ghost use Rattle.wh_policy.specs.declared.attribute.Dim.TheVariants.{Product, Store, Customer};
 ghost use Rattle.wh_history.specs.Accepted.{Accepted, Governs, members, member_of};
@@ -67,18 +67,21 @@ fn add_member(found: &mut Vec<Member>, member: Option<Member>) -> Result<(), All
     Ok(())
 }
 
-/// The members of a dimension with the durable keys up to a number, in their order.
-fn members_upto<S: Alter>(
+/// The members of a dimension with the durable keys past a number and up to another, in their order. `Damaged`: a row of member, or one of change,
+/// that is read is out of its type.
+pub fn members_between<S: Alter>(
     tables: &mut Tables<S>,
     alloc: Global,
     dim: Dim,
+    after: u64,
     last: u64,
 ) -> Result<Vec<Member>, ReadFault>
+    requires { after ≤ last }
     ensures reads { ReadsOnly (state_of S.Store tables.old) (state_of S.Store tables.new) result }
-    ensures members { Finds (state_of S.Store tables.old) (state_of S.Store tables.new) (λ _ commands. HaveNoEmptyValue commands → IfOk result (λ found. found.items ≡ map (member_of dim commands) (take last (members dim commands)))) }
+    ensures members { Finds (state_of S.Store tables.old) (state_of S.Store tables.new) (λ _ commands. HaveNoEmptyValue commands → IfOk result (λ found. found.items ≡ map (member_of dim commands) (drop after (take last (members dim commands))))) }
 {
     let mut found = Vec::new(alloc);
-    let mut durable = 0;
+    let mut durable = after;
     while durable < last {
         durable += 1;
         let member = numbered_member(tables, alloc, dim, durable)?;
@@ -87,7 +90,7 @@ fn members_upto<S: Alter>(
     Ok(found)
 }
 
-/// All members of a dimension, in order of their durable keys.
+/// All members of a dimension, in order of their durable keys. `Damaged`: a row of member, or one of change, is out of its type.
 fn all_members<S: Alter>(
     tables: &mut Tables<S>,
     alloc: Global,
@@ -97,7 +100,7 @@ fn all_members<S: Alter>(
     ensures members { Finds (state_of S.Store tables.old) (state_of S.Store tables.new) (λ _ commands. HaveNoEmptyValue commands → IfOk result (λ found. found.items ≡ all_members dim commands)) }
 {
     let last = last_member(tables, alloc, dim)?;
-    members_upto(tables, alloc, dim, last.durable)
+    members_between(tables, alloc, dim, 0, last.durable)
 }
 
 /// The members of a dimension, to be shown under a policy that takes the place of the one in force.

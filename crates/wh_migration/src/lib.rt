@@ -8,5 +8,6 @@ mod migration_plan;
 mod profile_plan;
 mod upgrade_plan;
 
+pub use all_members::members_between;
 pub use migration_plan::plan_migration;
 pub use upgrade_plan::plan_upgrade;

@@ -37,3 +37,5 @@ pub mod WrittenEdits
 pub mod MovedFacts
 pub mod MovedBetween
 pub mod MovedTouched
+pub mod OnePass
+pub mod TouchedApart

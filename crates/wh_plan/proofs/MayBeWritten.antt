@@ -16,7 +16,7 @@ use Rattle.wh_policy.specs.declared.record.DimensionRecord.{DimensionRecord}
 use Rattle.wh_policy.specs.declared.record.SaleRecord.{SaleRecord}
 use Rattle.wh_policy.specs.declared.record.VoidRecord.{VoidRecord}
 use Rattle.wh_history.specs.Accepted.{Accepted, Content, Governs, Describes, Sells, Upgrades, Withdraws, format_of, described, described_by, sold, withdrawn, withdrawn_by, members_after, records_by, placeholders_by}
-use Rattle.wh_history.specs.Tables.{Limits, meta_value, change_row, change_row_in, change_row_of, dimension_row}
+use Rattle.wh_history.specs.Tables.{Limits, meta_value, change_row, change_row_in, dimension_row}
 use Rattle.wh_history.specs.Tables as history
 use Rattle.wh_history.specs.declared.facts.Fact.{Fact}
 use Rattle.wh_history.specs.declared.plan.Edit.TheVariants.{Put, Remove}

@@ -12,3 +12,4 @@ pub mod Laws
 pub mod MovedFacts
 pub mod SoldMembers
 pub mod VoidEdits
+pub mod OnePass

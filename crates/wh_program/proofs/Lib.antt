@@ -1,7 +1,3 @@
-pub mod CommandLineLemmas
-pub mod WordLemmas
-pub mod CommandFaults
-pub mod PlainWords
 pub mod RunLemmas
 pub mod LineLemmas
 pub mod RoomLemmas
@@ -14,7 +10,4 @@ pub mod ExplainLemmas
 pub mod CheckLemmas
 pub mod DeliveryLemmas
 pub mod ManifestLemmas
-pub mod NamedLemmas
-pub mod MemoryLemmas
-pub mod TableNames
 pub mod Worked

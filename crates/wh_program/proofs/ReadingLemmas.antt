@@ -1,5 +1,5 @@
 -- What reports and dumps answer, and what they leave of what stood.
-use Rattle.std.proofs.Common.{◌≡◌, ◌∙◌, inl, refl, sym, ap, subst, ℕ, List, [], ◌∷◌, ◌++◌, Bool, true, false, Option, Some, None, Ok, Err}
+use Rattle.std.proofs.Common.{◌≡◌, ◌∙◌, inl, refl, sym, ap, subst, ℕ, List, [], ◌∷◌, ◌++◌, append_assoc, append-nil, Bool, true, false, Option, Some, None, Ok, Err}
 use Rattle.std.specs.Prelude.{Result, IfOk, IsOk, not, nat_lt, ok_or}
 use Rattle.std.specs.declared.alloc.AllocError.{AllocError}
 use Rattle.std.specs.declared.alloc.Global.{Global}
@@ -7,7 +7,6 @@ use Rattle.std.specs.declared.vec.Vec.{Vec}
 use Rattle.std.specs.Io.KnownBytes.{Appends}
 use Rattle.std.specs.List.{concat}
 use Rattle.std.proofs.KnownBytes.{Appends-nil}
-use Rattle.std.proofs.lemmas.List.Folds.{concat-append}
 use Rattle.std.proofs.lemmas.Result.{IfOk-weaker}
 use Rattle.sqlite.specs.State.{State}
 use Rattle.wh_day.specs.Day.{read_day}
@@ -23,24 +22,29 @@ use Rattle.wh_engine.specs.Scanned.{IsServing}
 use Rattle.wh_engine.specs.declared.fault.Fault.{Fault}
 use Rattle.wh_engine.specs.declared.fault.Fault.TheVariants as fault
 use Rattle.wh_engine.specs.declared.session.Session.{Session}
+use Rattle.wh_policy.specs.declared.attribute.Dim.{Dim}
+use Rattle.wh_query.specs.Answered.{Answers}
+use Rattle.wh_query.specs.Asked.{QueryAsked}
+use Rattle.wh_records.specs.Parts.{IsPartAt}
+use Rattle.wh_records.specs.declared.part.Part.{Part}
 use Rattle.wh_report.specs.Asked.{Asked}
-use Rattle.wh_report.specs.Output.{AreOut, IsOutInLines, IsOfDump, of_warehouse}
+use Rattle.wh_report.specs.Output.{AreOut, IsOutBut, IsOutInLines, IsOfDump, of_warehouse}
 use Rattle.wh_report.specs.Reported.{Reports}
 use Rattle.wh_report.specs.Request.{read_request, subject_reads, has_reading, no_reading}
 use Rattle.wh_report.specs.Subject.{subject_in}
-use Rattle.wh_report.specs.declared.mode.Mode.{Mode}
+use Rattle.wh_batch.specs.declared.mode.Mode.{Mode}
 use Rattle.wh_report.specs.declared.output.ReportFault.{ReportFault}
 use Rattle.wh_report.specs.declared.output.ReportFault.TheVariants as report
 use Rattle.wh_report.specs.declared.request.RequestFault.{RequestFault}
 use Rattle.wh_report.specs.declared.request.RequestFault.TheVariants.{NoAttribute, BadRange}
 use Rattle.wh_report.specs.declared.subject.Subject.{Subject}
 use Rattle.wh_program.specs.Answer.{Printed, done, refused}
-use Rattle.wh_program.specs.Reply.{request_line, report_answer}
-use Rattle.wh_program.specs.Readings.{LeavesRead, asked_under, asked_answer, IsReported, answer_after, TellsText, SaysStop}
+use Rattle.wh_program.specs.Reply.{fault_answer, records_answer, request_line, report_answer}
+use Rattle.wh_program.specs.Readings.{LeavesRead, asked_under, asked_answer, queried_under, queried_answer, query_answered, records_answered, IsAnsweredBy, answer_after, TellsLines, SaysStop, SaysWriteFailed}
 use Rattle.wh_program.specs.ReportsRead.{IsReadFor}
 use Rattle.wh_program.specs.Run.{Prints}
 use Rattle.wh_program.specs.Standing.{DatabaseContent, Nothing, Holds, Keeps, IsOfCommands, Standing, Unknown, Rests, IsAt, Stands}
-use Rattle.wh_program.specs.Task.{ReportWords}
+use Rattle.wh_words.specs.Task.{QueryWords, ReportWords}
 use Rattle.wh_program.specs.Warehouse.{Told, printed, Opens}
 use Rattle.wh_program.proofs.RunLemmas.{prints-answer_after, prints-cut}
 use Rattle.wh_program.proofs.WarehouseLemmas.{left as ended}
@@ -119,9 +123,37 @@ module _ (words : ReportWords) (limits : Limits) (commands : List Accepted) (tol
   pub not_asked : (why : RequestFault) → asked_under (current_policy commands) words ≡ Err why → IfOk told (λ a. a ≡ refused (request_line why)) → IsReady limits commands session s → IsAsked
   not_asked why is tells ready = record { read = Ok tt; serves = (refl, ready); tells = IfOk-weaker told _ _ (λ a e. e ∙ sym (ap (asked_answer commands) is)) tells }
 
-  -- what stands then
-  pub report_stands : IsAsked → (after : Standing) × IsReported words limits commands told after × Stands after s
-  report_stands asks = let l = left limits commands asks.read session s asks.serves in (l.0, record { read = asks.read; leaves = l.1; tells = asks.tells }, l.2)
+-- what stands once the warehouse was read for an answer
+pub answer_stands : (answer : List Accepted → Printed) (limits : Limits) (commands : List Accepted) (told : Told) (session : Session) (s : State) → IsReadFor (answer commands) told limits commands session s
+    → (after : Standing) × IsAnsweredBy answer limits commands told after × Stands after s
+answer_stands answer limits commands told session s asks = let l = left limits commands asks.read session s asks.serves in (l.0, record { read = asks.read; leaves = l.1; tells = asks.tells }, l.2)
+
+-- ---- query
+
+module _ (words : QueryWords) (limits : Limits) (commands : List Accepted) (told : Told) (session : Session) (s : State) where
+  abbrev IsQueried : Type 0
+  IsQueried = IsReadFor (query_answered words commands) told limits commands session s
+
+  -- it was worked out
+  pub queried : (q : QueryAsked) (worked : Result (Vec ℕ Global) ReportFault) → queried_under (current_policy commands) words ≡ Ok q → Answers commands q worked
+      → IfOk told (λ a. a ≡ report_answer worked) → IsServing limits commands (of_warehouse worked) session s → IsQueried
+  queried q (Ok text) is answers tells serving = record { read = Ok tt; serves = serving; tells = IfOk-weaker told _ _ (λ a e. e ∙ ap done answers ∙ sym (ap (queried_answer commands) is)) tells }
+  queried q (Err report.Write) is none tells serving = absurd none
+  queried q (Err (report.Warehouse why)) is wanting tells serving = record { read = Err why; serves = serving; tells = tells }
+  queried q (Err (report.Unwritten why)) is none tells serving = absurd none
+  queried q (Err (report.Inconsistent table)) is none tells serving = absurd none
+
+  -- or it can't be asked for
+  pub no_query : (why : RequestFault) → queried_under (current_policy commands) words ≡ Err why → IfOk told (λ a. a ≡ refused (request_line why)) → IsReady limits commands session s → IsQueried
+  no_query why is tells ready = record { read = Ok tt; serves = (refl, ready); tells = IfOk-weaker told _ _ (λ a e. e ∙ sym (ap (queried_answer commands) is)) tells }
+
+-- ---- records
+
+-- the batch was made, or it wasn't
+pub carried_read : (dim : Dim) (from : ℕ) (limits : Limits) (commands : List Accepted) (told : Told) (session : Session) (s : State) (found : Result Part Fault) → IfOk found (IsPartAt (current_policy commands) commands dim from)
+    → IfOk told (λ a. a ≡ records_answer found) → IsServing limits commands found session s → IsReadFor (records_answered dim from commands) told limits commands session s
+carried_read dim from limits commands told session s (Ok part) is tells serving = record { read = Ok tt; serves = serving; tells = IfOk-weaker told _ _ (λ a e. e ∙ ap done is.text) tells }
+carried_read dim from limits commands told session s (Err why) is tells serving = record { read = Err why; serves = serving; tells = tells }
 
 -- no memory for what is asked
 pub not_read : (answer : Printed) (e : AllocError) (limits : Limits) (commands : List Accepted) (session : Session) (s : State) → IsReady limits commands session s → IsReadFor answer (Err e) limits commands session s
@@ -129,26 +161,33 @@ not_read answer e limits commands session s ready = record { read = Ok tt; serve
 
 -- ---- dump
 
--- a beginning of the text went out, and then the fault was said
-cut-short : (text part rest : List ℕ) (why : Fault) (old mid new : Option (List ℕ)) (code : ℕ) → text ≡ part ++ rest → Appends old mid part → SaysStop (report.Warehouse why) mid new code
-    → (told : Told) × TellsText text (Err why) told × Prints old new code (printed told)
-cut-short text part rest why old mid new code begins went (line, tells, prints) = (
-  Ok (answer_after part (printed line)),
-  record { part = part; rest = rest; begins = begins; line = line; tells = tells; told_is = refl },
-  prints-answer_after old mid new code part (printed line) went prints,
+-- the first lines went out, and then the fault was said
+lines-out : (lines out : List (List ℕ)) (why : Fault) (old mid new : Option (List ℕ)) (code : ℕ) → AreOut out lines old mid → SaysStop (report.Warehouse why) mid new code
+    → (told : Told) × TellsLines lines (Err why) told × Prints old new code (printed told)
+lines-out lines out why old mid new code are (line, tells, prints) = (
+  Ok (answer_after (concat out) (printed line)),
+  record { out = out; left = are.left; whole = are.whole; line = line; tells = tells; told_is = refl },
+  prints-answer_after old mid new code (concat out) (printed line) are.went prints,
 )
 
-lines-out : (lines out : List (List ℕ)) (why : Fault) (old mid new : Option (List ℕ)) (code : ℕ) → AreOut out lines old mid → SaysStop (report.Warehouse why) mid new code
-    → (told : Told) × TellsText (concat lines) (Err why) told × Prints old new code (printed told)
-lines-out lines out why old mid new code are says = cut-short (concat lines) (concat out) (concat are.left) why old mid new code (ap concat are.whole ∙ concat-append out are.left) are.went says
+-- the writer failed within lines that were to go out before the line of a fault
+cut-before : (lines : List (List ℕ)) (why : Fault) (old mid new : Option (List ℕ)) (code byte : ℕ) (rest : List ℕ) → IsOutBut (byte ∷ rest) old mid (concat lines) → SaysWriteFailed mid new code
+    → (told : Told) × TellsLines lines (Err why) told × Prints old new code (printed told)
+cut-before lines why old mid new code byte rest but says =
+    let line = fault_answer why in (
+      Ok (answer_after (concat lines) line),
+      record { out = lines; left = []; whole = sym (append-nil lines); line = Ok line; tells = refl; told_is = refl },
+      prints-cut old mid new code (answer_after (concat lines) line) but.part byte (rest ++ line.text) (ap (λ (t : List ℕ). t ++ line.text) but.whole ∙ append_assoc but.part (byte ∷ rest) line.text) but.went says,
+    )
 
 -- what is answered where a dump was stopped, by what went out of it and what was said after that
 pub stopped-dump : (lines : List (List ℕ)) (why : ReportFault) (old mid new : Option (List ℕ)) (code : ℕ) → IsOfDump why → IsOutInLines (Err why) old mid lines → SaysStop why mid new code
-    → (told : Told) × TellsText (concat lines) (of_warehouse {A = Unit {0}} (Err why)) told × Prints old new code (printed told)
-stopped-dump lines report.Write old mid new code of (byte, rest, but) (failed, (told, said)) = (Ok (done (concat lines)), refl, prints-cut old mid new code (concat lines) but.part byte rest told but.whole but.went failed said)
-stopped-dump lines (report.Unwritten why) old mid new code of (byte, rest, but) says = cut-short (concat lines) but.part (byte ∷ rest) why old mid new code but.whole but.went says
+    → (told : Told) × TellsLines lines (of_warehouse {A = Unit {0}} (Err why)) told × Prints old new code (printed told)
+stopped-dump lines report.Write old mid new code of (byte, rest, but) says = (Ok (done (concat lines)), refl, prints-cut old mid new code (done (concat lines)) but.part byte rest but.whole but.went says)
+stopped-dump lines (report.Unwritten why) old mid new code of (byte, rest, but) says = cut-before lines why old mid new code byte rest but says
 stopped-dump lines (report.Warehouse fault.Memory) old mid new code of (out, are) says = lines-out lines out fault.Memory old mid new code are says
-stopped-dump lines (report.Warehouse fault.Reopen) old mid new code of same says = cut-short (concat lines) [] (concat lines) fault.Reopen old mid new code refl (subst (λ m. Appends old m []) (sym same) (Appends-nil old)) says
+stopped-dump lines (report.Warehouse fault.Reopen) old mid new code of same says =
+    lines-out lines [] fault.Reopen old mid new code (record { left = lines; whole = refl; went = subst (λ m. Appends old m []) (sym same) (Appends-nil old) }) says
 stopped-dump lines (report.Warehouse (fault.Refused why)) old mid new code of (first, more, are) says = lines-out lines (first ∷ more) (fault.Refused why) old mid new code are says
 stopped-dump lines (report.Warehouse (fault.Damaged table)) old mid new code of (first, more, are) says = lines-out lines (first ∷ more) (fault.Damaged table) old mid new code are says
 stopped-dump lines (report.Warehouse (fault.Store cause)) old mid new code of (first, more, are) says = lines-out lines (first ∷ more) (fault.Store cause) old mid new code are says

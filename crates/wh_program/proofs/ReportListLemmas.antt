@@ -12,8 +12,8 @@ use Rattle.wh_engine.specs.declared.fault.Fault.{Fault}
 use Rattle.wh_engine.specs.declared.fault.Fault.TheVariants as fault
 use Rattle.wh_engine.specs.declared.session.Session.{Session}
 use Rattle.wh_report.specs.Asked.{Asked}
-use Rattle.wh_report.specs.Words.{mode_of_word}
-use Rattle.wh_report.specs.declared.mode.Mode.{Mode}
+use Rattle.wh_batch.specs.Mode.{mode_of_word}
+use Rattle.wh_batch.specs.declared.mode.Mode.{Mode}
 use Rattle.wh_report.specs.declared.request.RequestFault.{RequestFault}
 use Rattle.wh_program.specs.Answer.{Printed}
 use Rattle.wh_program.specs.Readings.{asked_answer, read_answer}

@@ -5,12 +5,12 @@ use Rattle.std.specs.declared.alloc.AllocError.{AllocError}
 use Rattle.std.proofs.KnownBytes.{Appends-trans}
 use Rattle.std.proofs.Math.Seq.{take-append-add, take-append_seam}
 use Rattle.std.proofs.lemmas.List.{length-append}
-use Rattle.wh_program.specs.Answer.{Printed, done, status_code, write_line}
+use Rattle.wh_program.specs.Answer.{Printed, status_code, write_line}
 use Rattle.wh_program.specs.Inputs.{Files, Refusals}
-use Rattle.wh_program.specs.Readings.{answer_after}
+use Rattle.wh_program.specs.Readings.{SaysWriteFailed, answer_after}
 use Rattle.wh_program.specs.Run.{GoesOut, IsCutOff, Prints}
-use Rattle.wh_program.specs.Task.{Task, Trial, Init, Load, Migrate, Upgrade, Deliver, Plan, Explain, Report, Reports, Dump, Check, Status}
-use Rattle.wh_program.specs.Tasks.{Stores, Runs}
+use Rattle.wh_words.specs.Task.{Task, Trial, Init, Load, Migrate, Upgrade, Deliver, Plan, Explain, Records, Query, Report, Reports, Dump, Check, Status, Session}
+use Rattle.wh_program.specs.Tasks.{Stores, Runs, SparesOthers, WhenShut}
 use Rattle.wh_program.specs.Warehouse.{Told, PrintsAnswer, printed}
 use Rattle.wh_program.specs.declared.lines.answer.Status.{Status as Ending}
 use Rattle.wh_program.specs.declared.lines.answer.Status.TheVariants.{Done, Refused, Failed}
@@ -48,13 +48,12 @@ pub prints-answer_after : (old mid new : Option (List ℕ)) (code : ℕ) (part :
 prints-answer_after old mid new code part a went (inl whole) = inl (record { status = whole.status; text = Appends-trans old mid new part a.text went whole.text })
 prints-answer_after old mid new code part a went (inr (kept, cut)) = inr (length part + kept, cut-answer_after old mid new code kept part a went cut)
 
--- the writer failed after a part of a text that wants at least a byte
-pub prints-cut : (old mid new : Option (List ℕ)) (code : ℕ) (text part : List ℕ) (byte : ℕ) (rest : List ℕ) (told : ℕ) → text ≡ part ++ byte ∷ rest → Appends old mid part
-    → code ≡ 3 → Appends mid new (take told write_line) → Prints old new code (done text)
-prints-cut old mid new code text part byte rest told whole went failed said =
+-- the writer failed after a part of an answer that wants at least a byte
+pub prints-cut : (old mid new : Option (List ℕ)) (code : ℕ) (a : Printed) (part : List ℕ) (byte : ℕ) (rest : List ℕ) → a.text ≡ part ++ byte ∷ rest → Appends old mid part → SaysWriteFailed mid new code → Prints old new code a
+prints-cut old mid new code a part byte rest whole went (failed, (told, said)) =
     let line = take told write_line in
-    let same : part ++ line ≡ take (length part) text ++ line = ap (λ (t : List ℕ). t ++ line) (sym (ap (take (length part)) whole ∙ take-append_seam part (byte ∷ rest))) in
-    let longer : length text ≡ length part + length (byte ∷ rest) = ap length whole ∙ length-append part (byte ∷ rest) in
+    let same : part ++ line ≡ take (length part) a.text ++ line = ap (λ (t : List ℕ). t ++ line) (sym (ap (take (length part)) whole ∙ take-append_seam part (byte ∷ rest))) in
+    let longer : length a.text ≡ length part + length (byte ∷ rest) = ap length whole ∙ length-append part (byte ∷ rest) in
     inr (
       length part,
       record {
@@ -65,10 +64,19 @@ prints-cut old mid new code text part byte rest told whole went failed said =
       },
     )
 
+-- nothing was done
+pub spares_all : (before : Stores) (file : Option (List ℕ)) → SparesOthers before before file
+spares_all before None = λ other standing stood. stood
+spares_all before (Some file) = λ other standing apart stood. stood
+
+pub shut_all : (shut : List ℕ → Type 0) (file : Option (List ℕ)) (says : List ℕ → Type 0) → ((name : List ℕ) → says name) → WhenShut shut file says
+shut_all shut None says all = tt
+shut_all shut (Some name) says all = λ is. all name
+
 -- memory ran out before anything was done
 pub not_run : (holds : Files) (refuses : Refusals) (before : Stores) (same : Type 0) (prints : Told → Type 0) (goes_out : Option ℕ → Told → Type 0) (e : AllocError) (task : Task)
     → same → prints (Err e) → (cut : Option ℕ) × goes_out cut (Err e) → Runs holds refuses before before same prints goes_out task
-not_run holds refuses before same prints goes_out e (Trial dim path policy) is p went = (Err e, tt, p)
+not_run holds refuses before same prints goes_out e (Trial dim path policy) is p went = (is, (Err e, tt, p))
 not_run holds refuses before same prints goes_out e (Init file policy) is p went = ((λ content stood. (Err e, inr (record { same = stood; tells = tt }), p)), (Err e, inr (is, tt), p))
 not_run holds refuses before same prints goes_out e (Load file kind id path) is p went = λ content stood. (Err e, inr (record { same = stood; tells = tt }), p)
 not_run holds refuses before same prints goes_out e (Migrate file id policy) is p went = λ content stood. (Err e, inr (record { same = stood; tells = tt }), p)
@@ -78,7 +86,10 @@ not_run holds refuses before same prints goes_out e (Plan file kind id path) is 
 not_run holds refuses before same prints goes_out e (Explain file kind None) is p went = λ content stood. (Err e, inr (record { same = stood; tells = tt }), p)
 not_run holds refuses before same prints goes_out e (Explain file kind (Some path)) is p went = λ content stood. (Err e, inr (record { same = stood; tells = tt }), p)
 not_run holds refuses before same prints goes_out e (Report file words) is p went = λ content stood. (Err e, inr (record { same = stood; tells = tt }), p)
+not_run holds refuses before same prints goes_out e (Records file dim from) is p went = λ content stood. (Err e, inr (record { same = stood; tells = tt }), p)
+not_run holds refuses before same prints goes_out e (Query file words) is p went = λ content stood. (Err e, inr (record { same = stood; tells = tt }), p)
 not_run holds refuses before same prints goes_out e (Reports file list) is p went = λ content stood. (Err e, inr (record { same = stood; tells = tt }), p)
 not_run holds refuses before same prints goes_out e (Dump file table) is p went = λ content of_commands stood. (Err e, inr (record { same = stood; tells = tt }), p)
 not_run holds refuses before same prints goes_out e (Check file) is p went = λ content stood. (Err e, inr (record { same = stood; tells = tt }), p)
 not_run holds refuses before same prints goes_out e (Status file) is p went = λ content stood. (Err e, inr (record { same = stood; tells = tt }), p)
+not_run holds refuses before same prints goes_out e (Session file) is p went = (is, (Err e, tt, p))

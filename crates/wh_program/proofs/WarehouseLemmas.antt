@@ -1,6 +1,6 @@
 -- What the words over a warehouse leave of what stood.
-use Rattle.std.proofs.Common.{◌≡◌, ◌⊎◌, inl, inr, refl, sym, subst, ap, ◌∙◌, ℕ, List, [], ◌∷◌, Some, None, Ok, Err, true, false}
-use Rattle.std.specs.Prelude.{Result, map, IfOk, IfErr, IsOk, OnErr}
+use Rattle.std.proofs.Common.{◌≡◌, ◌⊎◌, ◌||◌, Bool, inl, inr, refl, sym, subst, ap, ◌∙◌, ℕ, List, [], ◌∷◌, Some, None, Ok, Err, true, false}
+use Rattle.std.specs.Prelude.{Result, map, IfOk, IfErr, IsOk, OnOk, OnErr}
 use Rattle.std.specs.List.{list_any}
 use Rattle.std.proofs.lemmas.Result.{IfOk-weaker}
 use Rattle.std.specs.declared.alloc.AllocError.{AllocError}
@@ -46,15 +46,18 @@ use Rattle.wh_program.specs.Explained.{Begins, IsDescribed, IsExplained, first_o
 use Rattle.wh_program.specs.Inputs.{Files, Refusals}
 use Rattle.wh_program.specs.Reply.{sent_answer, plan_answer, opening_answer, status_answer, making_answer, made_line}
 use Rattle.wh_program.specs.Standing.{DatabaseContent, Nothing, Holds, Keeps, Standing, Unknown, Rests, LeftAt, left_standing, IsAt, Stands}
-use Rattle.wh_program.specs.Warehouse.{Told, printed, Opens, IsUnread, IsReplied, IsForetold, IsCounted, Makes, AnswersWith, IsTried, IsNotConnected}
+use Rattle.wh_program.specs.Warehouse.{Told, printed, Opens, IsUnread, IsReplied, IsForetold, IsCounted, Makes, AnswersWith, AnswersShut, PrintsShut, IsNoFile, IsNoFileOr, IsTried, IsNotConnected}
 use Rattle.wh_program.specs.declared.host.HostError.{HostError}
 use Rattle.wh_program.specs.declared.host.HostError.TheVariants.{NoFile}
-use Rattle.wh_report.proofs.AddedLines.{second_true}
 
 -- where no object is, the ten tables are not all there
 pub none_there : has_tables no_schema ≡ false
 unfolding has_tables
 none_there = refl
+
+second_true : (a b : Bool) → b ≡ true → (a || b) ≡ true
+second_true true b h = refl
+second_true false b h = h
 
 -- in a warehouse of either format names of its tables are taken
 taken_in : (format : Format) → is_any_taken (schema_in format) ≡ true
@@ -245,6 +248,31 @@ module _ (refuses : Refusals) (stands : Standing → Type 0) (content : Database
         | Ok output ↦ λ did same why is other. inl (record { after = did.0; then_stands = did.2; did = subst (λ t. does t did.0) (sym is) did.1 })
         | Err e ↦ λ did same why is other. inr (record { same = same; tells = IfOk-weaker told _ _ (λ a says. (why says.0, says.1)) other })
       ] did same why is other
+
+-- what is answered where the host can't open the name
+pub shut_answered : (visit : Result Told HostError) (file : List ℕ) (told : Told) → OnOk visit ⊥ → IfErr visit (λ e. IfOk told (λ a. (e ≡ NoFile) × (a ≡ failed (no_file_line file)))) → IfOk told (λ a. a ≡ failed (no_file_line file))
+shut_answered (Ok output) file told none says = absurd none
+shut_answered (Err e) file told none says = IfOk-weaker told _ _ (λ a is. is.1) says
+
+module _ (same : Type 0) (file : List ℕ) (before : Printed → Type 0) (told : Told) where
+  pub shut_or : AnswersShut same (IsNoFile file) told → AnswersShut same (IsNoFileOr file before) told
+  shut_or is = (is.0, IfOk-weaker told _ _ (λ a closed. inl closed) is.1)
+
+  -- what is answered before that is tried
+  pub told_before : same → IfOk told before → AnswersShut same (IsNoFileOr file before) told
+  told_before is tells = (is, IfOk-weaker told _ _ (λ a so. inr so) tells)
+
+module _ (file : List ℕ) (first second : Printed → Type 0) (so : (a : Printed) → first a → second a) where
+  either_way : (a : Printed) → IsNoFileOr file first a → IsNoFileOr file second a
+  either_way a (inl closed) = inl closed
+  either_way a (inr is) = inr (so a is)
+
+  -- the same, said of more
+  pub shut_before : (same : Type 0) (prints : Told → Type 0) → PrintsShut same (IsNoFileOr file first) prints → PrintsShut same (IsNoFileOr file second) prints
+  shut_before same prints is = (is.0, (is.1.0, IfOk-weaker is.1.0 (IsNoFileOr file first) (IsNoFileOr file second) either_way is.1.1, is.1.2))
+
+pub prints_shut_or : (same : Type 0) (file : List ℕ) (before : Printed → Type 0) (prints : Told → Type 0) → PrintsShut same (IsNoFile file) prints → PrintsShut same (IsNoFileOr file before) prints
+prints_shut_or same file before prints is = (is.0, (is.1.0, IfOk-weaker is.1.0 (IsNoFile file) (IsNoFileOr file before) (λ a closed. inl closed) is.1.1, is.1.2))
 
 -- ---- with the bytes of an input
 

@@ -14,6 +14,7 @@ use Rattle.wh_batch.specs.declared.fault.FaultKind.TheVariants.{TooLarge, WrongH
 use Rattle.wh_history.specs.Tables.{dimension_table, trial_commands}
 use Rattle.wh_history.specs.declared.rows.DimRow.{DimRow}
 use Rattle.wh_report.specs.Dump.{dimension_text}
+use Rattle.wh_words.specs.WrongWord.{line}
 use Rattle.wh_program.specs.Inputs.{Files, up_to, batch_limit, policy_limit}
 use Rattle.wh_program.specs.declared.lines.answer.Status.{Status}
 use Rattle.wh_program.specs.declared.lines.answer.Status.TheVariants.{Done, Refused, Failed}
@@ -38,10 +39,6 @@ failed text = record { status = 3; text = text }
 
 abbrev pub wrong_words : List ℕ → Printed
 wrong_words text = record { status = 4; text = text }
-
--- a text with the end of its line
-abbrev pub line : List ℕ → List ℕ
-line text = text ++ 10 ∷ []
 
 abbrev pub batch_fault_name : FaultKind → List ℕ
 batch_fault_name TooLarge = codes "B1 too large"
@@ -83,26 +80,10 @@ memory_line = line (codes "failed: E8 memory")
 abbrev pub write_line : List ℕ
 write_line = line (codes "failed: G4 write")
 
+abbrev pub session_line : List ℕ
+session_line = line (codes "refused: G5 session")
+
 -- ---- words that are wrong
-
--- the word that was given for an operand is none of those that are possible
-abbrev pub wrong_word_line : (operand word possible : List ℕ) → List ℕ
-wrong_word_line operand word possible = line (codes "error: " ++ operand ++ codes " is '" ++ word ++ codes "', and none of " ++ possible)
-
-abbrev pub no_dimension_line : List ℕ → List ℕ
-no_dimension_line word = wrong_word_line (codes "DIMENSION") word (codes "product, store and customer")
-
-abbrev pub no_kind_line : List ℕ → List ℕ
-no_kind_line word = wrong_word_line (codes "KIND") word (codes "product, store, customer, sales and void")
-
-abbrev pub no_command_kind_line : List ℕ → List ℕ
-no_command_kind_line word = wrong_word_line (codes "KIND") word (codes "product, store, customer, sales, void, migrate and upgrade")
-
-abbrev pub no_mode_line : List ℕ → List ℕ
-no_mode_line word = wrong_word_line (codes "MODE") word (codes "was, is and prior")
-
-abbrev pub no_table_line : List ℕ → List ℕ
-no_table_line word = wrong_word_line (codes "TABLE") word (codes "meta, command, member, change, product, store, customer, profile, calendar, fact, fact2 and void")
 
 abbrev pub no_text_line : List ℕ
 no_text_line = line (codes "error: an argument is not valid UTF-8")

@@ -17,12 +17,13 @@ use Rattle.wh_admission.specs.declared.command.Refusal.{Refusal}
 use Rattle.wh_admission.specs.declared.command.Reply.{Reply}
 use Rattle.wh_engine.specs.declared.fault.Fault.{Fault}
 use Rattle.wh_engine.specs.declared.fault.Fault.TheVariants as fault
-use Rattle.wh_program.specs.Answer.{Printed, refused, failed, line, no_file_line, status_code}
+use Rattle.wh_program.specs.Answer.{Printed, refused, failed, no_file_line, status_code}
+use Rattle.wh_words.specs.WrongWord.{line}
 use Rattle.wh_program.specs.Inputs.{Files, Refusals, as_input, as_manifest}
 use Rattle.wh_program.specs.Readings.{answer_after}
 use Rattle.wh_program.specs.Reply.{reply_answer, refused_line, fault_answer, sent_answer}
 use Rattle.wh_program.specs.Standing.{DatabaseContent, Holds, Standing, Rests, LeftAt}
-use Rattle.wh_program.specs.Warehouse.{Told, printed, LeavesReplied, IsCommandOf, AnswersWork}
+use Rattle.wh_program.specs.Warehouse.{Told, printed, LeavesReplied, IsCommandOf, AnswersWork, IsNoFile, LacksFile}
 use Rattle.wh_program.specs.declared.lines.answer.Status.{Status}
 use Rattle.wh_program.specs.declared.lines.answer.Status.TheVariants.{Done, Refused, Failed}
 
@@ -141,3 +142,18 @@ abbrev pub AnswersDelivery : Files → Refusals → (Standing → Type 0) → (c
 AnswersDelivery holds refuses stands cut content file manifest told =
     ((bytes : List ℕ) × as_manifest holds manifest (Some bytes) × AnswersRead holds refuses stands cut content file (manifest_of bytes) told)
     ⊎ IsNotSent stands content told (λ a. holds manifest None × (a ≡ failed (no_file_line manifest)))
+
+-- ---- what is answered before the warehouse is opened
+
+-- an input of these entries isn't there
+abbrev pub LacksEntry : Files → List ManifestEntry → Printed → Type 0
+LacksEntry holds entries a = (path : List ℕ) × IsFirstMissing holds entries path × IsNoFile path a
+
+-- those of a manifest that was read, or it is a bad one
+abbrev pub LacksListed : Files → Result (List ManifestEntry) BadManifest → Printed → Type 0
+LacksListed holds (Ok entries) a = LacksEntry holds entries a
+LacksListed holds (Err bad) a = a ≡ refused (manifest_line bad)
+
+-- the manifest isn't there, or is a bad one, or an input of it isn't there
+abbrev pub LacksManifest : Files → (manifest : List ℕ) → Printed → Type 0
+LacksManifest holds manifest a = LacksFile holds manifest a ⊎ ((bytes : List ℕ) × as_manifest holds manifest (Some bytes) × LacksListed holds (manifest_of bytes) a)

@@ -20,11 +20,12 @@ use Rattle.wh_engine.specs.Previewed.{IsPreviewOf}
 use Rattle.wh_engine.specs.declared.fault.Fault.{Fault}
 use Rattle.wh_engine.specs.declared.preview.Preview.{Preview}
 use Rattle.wh_explain.specs.Added.{Continues}
-use Rattle.wh_program.specs.Answer.{Printed, done, line}
+use Rattle.wh_program.specs.Answer.{Printed, done}
+use Rattle.wh_words.specs.WrongWord.{line}
 use Rattle.wh_program.specs.Inputs.{Files, Refusals, as_input}
 use Rattle.wh_program.specs.Reply.{fault_answer}
 use Rattle.wh_program.specs.Standing.{DatabaseContent, Holds, Rests, Standing, left_standing}
-use Rattle.wh_program.specs.Warehouse.{Told, Opens, AnswersWith, AnswersWork}
+use Rattle.wh_program.specs.Warehouse.{Told, Opens, AnswersWith, AnswersWork, LacksFile}
 
 -- the answer has the status of this one, and its text comes first
 pub record Begins (first : Printed) (answer : Printed) : Type 0 where
@@ -85,3 +86,8 @@ pub record IsDescribed (kind : CommandKind) (limits : Limits) (commands : List A
 abbrev pub AnswersExplanation : Files → Refusals → (Standing → Type 0) → DatabaseContent → (file : List ℕ) → CommandKind → (path : Option (List ℕ)) → Told → Type 0
 AnswersExplanation holds refuses stands content file kind None told = AnswersWork refuses stands (IsDescribed kind) content file told
 AnswersExplanation holds refuses stands content file kind (Some path) told = AnswersWith (as_input kind holds) refuses stands (Explains kind) content file path told
+
+-- the input in a file isn't there
+abbrev pub LacksInputAsked : Files → CommandKind → (path : Option (List ℕ)) → Printed → Type 0
+LacksInputAsked holds kind None a = ⊥
+LacksInputAsked holds kind (Some path) a = LacksFile (as_input kind holds) path a

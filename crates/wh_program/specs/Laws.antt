@@ -1,4 +1,4 @@
--- Nothing is lost where an input is read to its limit and a byte, and a longer manifest, or list of reports, is refused; and which words are those of a command.
+-- Nothing is lost where an input is read to its limit and a byte, and a longer manifest, or list of reports, is refused.
 use Rattle.std.specs.Prelude.{◌≡◌, ◌⊎◌, ◌<◌, ℕ, suc, List, length, take, true, None, Result, Err}
 use Rattle.std.specs.List.{list_all}
 use Rattle.wh_policy.specs.Policy.{read_policy}
@@ -9,9 +9,9 @@ use Rattle.wh_batch.specs.declared.kind.CommandKind.{CommandKind}
 use Rattle.wh_batch.specs.declared.manifest.BadManifest.{BadManifest}
 use Rattle.wh_admission.specs.Admission.{content_of}
 use Rattle.wh_program.specs.Answer.{trial_rows}
-use Rattle.wh_program.specs.CommandLine.{CommandLine, Says, is_operand}
+use Rattle.wh_words.specs.CommandLine.{CommandLine, Says, is_operand}
 use Rattle.wh_program.specs.Inputs.{batch_limit, policy_limit, input_limit, read_within, manifest_limit, manifest_part}
-use Rattle.wh_program.specs.Task.{asked_by, no_line, task_of}
+use Rattle.wh_words.specs.Task.{asked_by, no_line, task_of}
 
 -- a policy is what is read so
 abbrev pub PoliciesAreReadSo : Type 0
@@ -28,13 +28,3 @@ CommandsAreReadSo = (kind : CommandKind) (format : Format) (policy : Policy) (by
 -- a list of more bytes than a manifest may have is a bad one
 abbrev pub LongListsAreBad : {E : Type 0} → (List ℕ → Result (List E) BadManifest) → Type 0
 LongListsAreBad read = (bytes : List ℕ) → manifest_limit < length bytes → (bad : BadManifest) × (read (manifest_part bytes) ≡ Err bad)
-
--- ---- words
-
--- the words of a command ask for what it is to do, or for nothing where one of them is none of those that are listed
-abbrev pub WordsAreRead : Type 0
-WordsAreRead = (words : List (List ℕ)) (line : CommandLine) → Says words line → asked_by words ≡ no_line (task_of line)
-
--- words none of which is an option are those of a command, or they ask for nothing
-abbrev pub OtherWordsAreNone : Type 0
-OtherWordsAreNone = (words : List (List ℕ)) → list_all is_operand words ≡ true → ((line : CommandLine) × Says words line) ⊎ (asked_by words ≡ None)

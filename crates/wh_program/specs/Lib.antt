@@ -1,6 +1,3 @@
-pub mod CommandLine
-pub mod Task
-pub mod Request
 pub mod Inputs
 pub mod Answer
 pub mod PlanText
@@ -17,5 +14,3 @@ pub mod ReportLists
 pub mod ReportsRead
 pub mod Tasks
 pub mod Laws
-pub mod Named
-pub mod Memory

@@ -15,7 +15,7 @@ use Rattle.wh_rows.specs.declared.table.Table.TheVariants.{Meta, Command, Member
 use Rattle.wh_plan.specs.Edits.{Edits, edit_count}
 use Rattle.wh_plan.specs.declared.edits.FactEdit.{FactEdit}
 use Rattle.wh_plan.specs.declared.edits.FactEdit.TheVariants.{Row, Rekey}
-use Rattle.wh_program.specs.Answer.{line}
+use Rattle.wh_words.specs.WrongWord.{line}
 
 -- ---- keys of two columns
 

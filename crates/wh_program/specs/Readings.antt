@@ -1,6 +1,7 @@
 -- What a report and a dump of a warehouse answer and leave.
 use Rattle.std.specs.Prelude.{◌≡◌, ◌⊎◌, ◌++◌, ℕ, List, Option, Result, Ok, Err, IsOk, IfOk, take}
 use Rattle.std.specs.Io.KnownBytes.{Appends}
+use Rattle.std.specs.List.{concat}
 use Rattle.wh_policy.specs.declared.policy.Policy.{Policy}
 use Rattle.wh_history.specs.Accepted.{Accepted}
 use Rattle.wh_history.specs.Tables.{Limits}
@@ -10,8 +11,15 @@ use Rattle.wh_model.specs.Defined.{AreOf}
 use Rattle.wh_admission.specs.Admission.{current_policy}
 use Rattle.wh_engine.specs.Outcome.{Outcome}
 use Rattle.wh_engine.specs.declared.fault.Fault.{Fault}
+use Rattle.wh_policy.specs.Policy.{policy_attributes}
+use Rattle.wh_policy.specs.declared.attribute.Dim.{Dim}
+use Rattle.wh_query.specs.Answer.{query}
+use Rattle.wh_query.specs.Asked.{QueryAsked}
+use Rattle.wh_query.specs.Reading.{read_query}
+use Rattle.wh_records.specs.Parts.{part_at}
+use Rattle.wh_records.specs.Texts.{records_text}
 use Rattle.wh_report.specs.Asked.{Asked}
-use Rattle.wh_report.specs.Dump.{text_of_table}
+use Rattle.wh_report.specs.Dump.{lines_of_table}
 use Rattle.wh_report.specs.Reported.{report_of}
 use Rattle.wh_report.specs.Request.{read_request}
 use Rattle.wh_report.specs.declared.output.ReportFault.{ReportFault}
@@ -22,7 +30,7 @@ use Rattle.wh_program.specs.Inputs.{Refusals}
 use Rattle.wh_program.specs.Reply.{fault_answer, request_line, report_fault_answer}
 use Rattle.wh_program.specs.Run.{Prints}
 use Rattle.wh_program.specs.Standing.{DatabaseContent, Standing, left_standing}
-use Rattle.wh_program.specs.Task.{ReportWords}
+use Rattle.wh_words.specs.Task.{QueryWords, ReportWords}
 use Rattle.wh_program.specs.Warehouse.{Told, printed, Opens, IsTried, IsNotConnected, AnswersWork}
 
 -- What a call that only reads leaves of a warehouse with these commands: nothing changes.
@@ -45,13 +53,47 @@ abbrev pub read_answer : Result (Unit {0}) Fault → Printed → Printed
 read_answer (Ok read) answer = answer
 read_answer (Err fault) answer = fault_answer fault
 
-pub record IsReported (words : ReportWords) (limits : Limits) (commands : List Accepted) (told : Told) (after : Standing) : Type 0 where
+-- The warehouse was read for an answer by its accepted commands, and that or the fault is given.
+pub record IsAnsweredBy (answer : List Accepted → Printed) (limits : Limits) (commands : List Accepted) (told : Told) (after : Standing) : Type 0 where
   pub read : Result (Unit {0}) Fault
   pub leaves : LeavesRead limits commands read after
-  pub tells : IfOk told (λ a. a ≡ read_answer read (asked_answer commands (asked_under (current_policy commands) words)))
+  pub tells : IfOk told (λ a. a ≡ read_answer read (answer commands))
+
+-- the answer to the words of a report
+abbrev pub report_answered : ReportWords → List Accepted → Printed
+report_answered words commands = asked_answer commands (asked_under (current_policy commands) words)
+
+abbrev pub IsReported : ReportWords → Limits → List Accepted → Told → Standing → Type 0
+IsReported words = IsAnsweredBy (report_answered words)
 
 abbrev pub AnswersReport : Refusals → (Standing → Type 0) → DatabaseContent → (file : List ℕ) → ReportWords → Told → Type 0
 AnswersReport refuses stands content file words told = AnswersWork refuses stands (IsReported words) content file told
+
+-- ---- query
+
+-- what the words ask for under a policy, or the first fault
+abbrev pub queried_under : Policy → QueryWords → Result QueryAsked RequestFault
+queried_under policy words = read_query policy words.columns words.conditions words.from words.to
+
+-- the answer to the query that is asked for, or what is wrong with the words
+abbrev pub queried_answer : List Accepted → Result QueryAsked RequestFault → Printed
+queried_answer commands (Ok q) = done (query commands q)
+queried_answer commands (Err fault) = refused (request_line fault)
+
+abbrev pub query_answered : QueryWords → List Accepted → Printed
+query_answered words commands = queried_answer commands (queried_under (current_policy commands) words)
+
+abbrev pub AnswersQuery : Refusals → (Standing → Type 0) → DatabaseContent → (file : List ℕ) → QueryWords → Told → Type 0
+AnswersQuery refuses stands content file words told = AnswersWork refuses stands (IsAnsweredBy (query_answered words)) content file told
+
+-- ---- records
+
+-- the batch of the records that carry a dimension's members, from one of them on
+abbrev pub records_answered : Dim → ℕ → List Accepted → Printed
+records_answered dim from commands = done (records_text (policy_attributes (current_policy commands) dim) (part_at (current_policy commands) commands dim from))
+
+abbrev pub AnswersRecords : Refusals → (Standing → Type 0) → DatabaseContent → (file : List ℕ) → Dim → ℕ → Told → Type 0
+AnswersRecords refuses stands content file dim from told = AnswersWork refuses stands (IsAnsweredBy (records_answered dim from)) content file told
 
 -- ---- dump
 
@@ -59,34 +101,38 @@ AnswersReport refuses stands content file words told = AnswersWork refuses stand
 abbrev pub answer_after : List ℕ → Printed → Printed
 answer_after part answer = record { status = answer.status; text = part ++ answer.text }
 
--- a beginning of the text, and then the line of the fault, or of the lack of memory for that
-pub record IsCutShort (text : List ℕ) (fault : Fault) (told : Told) : Type 0 where
-  pub part : List ℕ
-  pub rest : List ℕ
-  pub begins : text ≡ part ++ rest
+-- the first lines, each whole, and then the line of the fault, or of the lack of memory for that
+pub record IsCutShort (lines : List (List ℕ)) (fault : Fault) (told : Told) : Type 0 where
+  pub out : List (List ℕ)
+  pub left : List (List ℕ)
+  pub whole : lines ≡ out ++ left
   pub line : Told
   pub tells : IfOk line (λ a. a ≡ fault_answer fault)
-  pub told_is : told ≡ Ok (answer_after part (printed line))
+  pub told_is : told ≡ Ok (answer_after (concat out) (printed line))
 
--- the whole text, where the table was read
-abbrev pub TellsText : List ℕ → Result (Unit {0}) Fault → Told → Type 0
-TellsText text (Ok read) told = told ≡ Ok (done text)
-TellsText text (Err fault) told = IsCutShort text fault told
+-- all lines, where the table was read
+abbrev pub TellsLines : List (List ℕ) → Result (Unit {0}) Fault → Told → Type 0
+TellsLines lines (Ok read) told = told ≡ Ok (done (concat lines))
+TellsLines lines (Err fault) told = IsCutShort lines fault told
 
--- the text is that of the table of the accepted commands
+-- the lines are those of the table of the accepted commands
 pub record IsDumped (table : Table) (limits : Limits) (commands : List Accepted) (told : Told) (after : Standing) : Type 0 where
   pub tables : Tables
   pub are : AreOf limits commands tables
   pub read : Result (Unit {0}) Fault
   pub leaves : LeavesRead limits commands read after
-  pub tells : TellsText (text_of_table table tables) read told
+  pub tells : TellsLines (lines_of_table table tables) read told
 
 abbrev pub AnswersDump : Refusals → (Standing → Type 0) → DatabaseContent → (file : List ℕ) → Table → Told → Type 0
 AnswersDump refuses stands content file table told = IsTried stands (Opens (IsDumped table) content) told ⊎ IsNotConnected refuses stands content file told
 
--- what ended a dump is said after what went out of it: that the writer failed, as far as it could still be written, or the line of the fault
+-- the writer failed, which is said as far as it could still be written
+abbrev pub SaysWriteFailed : Option (List ℕ) → Option (List ℕ) → ℕ → Type 0
+SaysWriteFailed old new code = (code ≡ 3) × ((told : ℕ) × Appends old new (take told write_line))
+
+-- what ended a dump is said after what went out of it: that the writer failed, whatever else did, or the line of the fault
 abbrev pub SaysStop : ReportFault → Option (List ℕ) → Option (List ℕ) → ℕ → Type 0
-SaysStop report.Write old new code = (code ≡ 3) × ((told : ℕ) × Appends old new (take told write_line))
+SaysStop report.Write old new code = SaysWriteFailed old new code
+SaysStop (report.Unwritten why) old new code = SaysWriteFailed old new code
 SaysStop (report.Warehouse why) old new code = (line : Told) × IfOk line (λ a. a ≡ fault_answer why) × Prints old new code (printed line)
-SaysStop (report.Unwritten why) old new code = (line : Told) × IfOk line (λ a. a ≡ fault_answer why) × Prints old new code (printed line)
 SaysStop (report.Inconsistent table) old new code = (line : Told) × IfOk line (λ a. a ≡ report_fault_answer (report.Inconsistent table)) × Prints old new code (printed line)

@@ -25,14 +25,16 @@ use Rattle.wh_rows.specs.Names.{table_name}
 use Rattle.wh_rows.specs.declared.table.Table.{Table}
 use Rattle.wh_rows.specs.declared.cause.Cause.{Cause}
 use Rattle.wh_rows.specs.declared.cause.Cause.TheVariants as cause
+use Rattle.wh_records.specs.declared.part.Part.{Part}
 use Rattle.wh_plan.specs.Edits.{Edits}
-use Rattle.wh_report.specs.declared.mode.Mode.{Mode}
+use Rattle.wh_batch.specs.declared.mode.Mode.{Mode}
 use Rattle.wh_report.specs.declared.output.ReportFault.{ReportFault}
 use Rattle.wh_report.specs.declared.output.ReportFault.TheVariants as report
 use Rattle.wh_report.specs.declared.request.RequestFault.{RequestFault}
 use Rattle.wh_report.specs.declared.request.RequestFault.TheVariants as request
-use Rattle.wh_report.specs.Words.{mode_word}
-use Rattle.wh_program.specs.Answer.{Printed, done, refused, failed, line, batch_line, policy_line, memory_line, write_line}
+use Rattle.wh_batch.specs.Mode.{mode_word}
+use Rattle.wh_program.specs.Answer.{Printed, done, refused, failed, batch_line, policy_line, memory_line, write_line}
+use Rattle.wh_words.specs.WrongWord.{line}
 use Rattle.wh_program.specs.PlanText.{plan_text}
 
 -- what an accepted command is answered, after the word for how it was taken
@@ -93,6 +95,10 @@ fault_answer fault.Reopen = failed (line (codes "failed: E10 reopen"))
 abbrev pub sent_answer : List ℕ → Result Reply Fault → Printed
 sent_answer id (Ok reply) = reply_answer id reply
 sent_answer id (Err fault) = fault_answer fault
+
+abbrev pub records_answer : Result Part Fault → Printed
+records_answer (Ok part) = done part.text.items
+records_answer (Err fault) = fault_answer fault
 
 abbrev pub plan_answer : Result Edits Fault → Printed
 plan_answer (Ok edits) = done (plan_text edits)

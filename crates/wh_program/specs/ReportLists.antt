@@ -8,16 +8,17 @@ use Rattle.wh_history.specs.Accepted.{Accepted}
 use Rattle.wh_history.specs.Tables.{Limits}
 use Rattle.wh_admission.specs.Admission.{current_policy}
 use Rattle.wh_engine.specs.declared.fault.Fault.{Fault}
-use Rattle.wh_report.specs.Words.{mode_of_word}
-use Rattle.wh_report.specs.declared.mode.Mode.{Mode}
-use Rattle.wh_program.specs.Answer.{Printed, refused, failed, no_file_line, no_mode_line, status_code}
+use Rattle.wh_batch.specs.Mode.{mode_of_word}
+use Rattle.wh_batch.specs.declared.mode.Mode.{Mode}
+use Rattle.wh_program.specs.Answer.{Printed, refused, failed, no_file_line, status_code}
+use Rattle.wh_words.specs.WrongWord.{no_mode_line}
 use Rattle.wh_program.specs.Delivery.{IsNotSent, manifest_line}
 use Rattle.wh_program.specs.Inputs.{Files, Refusals, as_manifest}
 use Rattle.wh_program.specs.Readings.{LeavesRead, asked_answer, asked_under}
 use Rattle.wh_program.specs.Reply.{fault_answer}
 use Rattle.wh_program.specs.Standing.{DatabaseContent, Standing}
-use Rattle.wh_program.specs.Task.{ReportWords}
-use Rattle.wh_program.specs.Warehouse.{Told, AnswersWork}
+use Rattle.wh_words.specs.Task.{ReportWords}
+use Rattle.wh_program.specs.Warehouse.{Told, AnswersWork, LacksFile}
 use Rattle.wh_program.specs.declared.lines.answer.Status.{Status}
 use Rattle.wh_program.specs.declared.lines.answer.Status.TheVariants.{Done, Refused, Failed}
 
@@ -80,3 +81,12 @@ abbrev pub AnswersReports : Files → Refusals → (Standing → Type 0) → Dat
 AnswersReports holds refuses stands content file list told =
     ((bytes : List ℕ) × as_manifest holds list (Some bytes) × AnswersListedReports refuses stands content file (reports_of bytes) told)
     ⊎ IsNotSent stands content told (λ a. holds list None × (a ≡ failed (no_file_line list)))
+
+-- the list is a bad one
+abbrev pub IsBadList : Result (List ListedReport) BadManifest → Printed → Type 0
+IsBadList (Ok listed) a = ⊥
+IsBadList (Err bad) a = a ≡ refused (manifest_line bad)
+
+-- the list isn't there, or is a bad one
+abbrev pub LacksList : Files → (list : List ℕ) → Printed → Type 0
+LacksList holds list a = LacksFile holds list a ⊎ ((bytes : List ℕ) × as_manifest holds list (Some bytes) × IsBadList (reports_of bytes) a)

@@ -1,20 +1,44 @@
 -- What a run of each command prints and leaves.
-use Rattle.std.specs.Prelude.{ℕ, List, Option, IfOk}
+use Rattle.std.specs.Prelude.{◌≡◌, ◌≢◌, ⊤, ℕ, List, Option, Some, None, IfOk}
 use Rattle.wh_batch.specs.declared.kind.CommandKind.TheVariants.{Batch, Migration}
-use Rattle.wh_program.specs.Answer.{AnswersTrial}
+use Rattle.wh_program.specs.Answer.{Printed, AnswersTrial, refused, session_line}
 use Rattle.wh_program.specs.Check.{AnswersCheck}
-use Rattle.wh_program.specs.Delivery.{AnswersDelivery}
-use Rattle.wh_program.specs.Explained.{AnswersExplanation}
+use Rattle.wh_program.specs.Delivery.{AnswersDelivery, LacksManifest}
+use Rattle.wh_program.specs.Explained.{AnswersExplanation, LacksInputAsked}
 use Rattle.wh_program.specs.Inputs.{Files, Refusals, up_to, batch_limit, policy_limit, as_input}
-use Rattle.wh_program.specs.Readings.{AnswersReport, AnswersDump}
-use Rattle.wh_program.specs.ReportLists.{AnswersReports}
+use Rattle.wh_program.specs.Readings.{AnswersReport, AnswersQuery, AnswersRecords, AnswersDump}
+use Rattle.wh_program.specs.ReportLists.{AnswersReports, LacksList}
 use Rattle.wh_program.specs.Standing.{DatabaseContent, IsOfCommands, Standing, Rests}
-use Rattle.wh_program.specs.Task.{Task, Trial, Init, Load, Migrate, Upgrade, Deliver, Plan, Explain, Report, Reports, Dump, Check, Status}
-use Rattle.wh_program.specs.Warehouse.{Told, Makes, Sends, Plans, AnswersWith, AnswersUpgrade, AnswersStatus, IsJudgedFirst}
+use Rattle.wh_words.specs.Task.{Task, Trial, Init, Load, Migrate, Upgrade, Deliver, Plan, Explain, Records, Query, Report, Reports, Dump, Check, Status, Session}
+use Rattle.wh_program.specs.Warehouse.{Told, Makes, Sends, Plans, AnswersWith, AnswersUpgrade, AnswersStatus, IsJudgedFirst, PrintsShut, IsNoFileOr, LacksFile, LacksPolicy}
 
 -- what a host stores under its names
 abbrev pub Stores : Type 1
 Stores = List ℕ → Standing → Type 0
+
+-- what stood under any name but the file's, where there is one, stands there after
+abbrev pub SparesOthers : (before after : Stores) → (file : Option (List ℕ)) → Type 0
+SparesOthers before after None = (other : List ℕ) (standing : Standing) → before other standing → after other standing
+SparesOthers before after (Some file) = (other : List ℕ) (standing : Standing) → other ≢ file → before other standing → after other standing
+
+-- the name of the warehouse that a command is about; a trial is about none
+abbrev pub warehouse_of : Task → Option (List ℕ)
+warehouse_of (Trial dim path policy) = None
+warehouse_of (Init file policy) = Some file
+warehouse_of (Load file kind id path) = Some file
+warehouse_of (Migrate file id policy) = Some file
+warehouse_of (Upgrade file id) = Some file
+warehouse_of (Deliver file manifest) = Some file
+warehouse_of (Plan file kind id path) = Some file
+warehouse_of (Explain file kind path) = Some file
+warehouse_of (Records file dim from) = Some file
+warehouse_of (Query file words) = Some file
+warehouse_of (Report file words) = Some file
+warehouse_of (Reports file list) = Some file
+warehouse_of (Dump file table) = Some file
+warehouse_of (Check file) = Some file
+warehouse_of (Status file) = Some file
+warehouse_of (Session file) = Some file
 
 -- over what stands under a file: this is answered and printed
 abbrev pub RunsOver : Stores → (file : List ℕ) → (DatabaseContent → Told → Type 0) → (Told → Type 0) → Type 0
@@ -31,7 +55,7 @@ RunsAlong before file answers goes_out = (content : DatabaseContent) → before 
 -- What is answered and printed, by the files that a host holds, each as far as it is read, by the names that it refuses, by what it stores before and after, by
 -- whether it is the same as before, and by how much of an answer goes out.
 abbrev pub Runs : Files → Refusals → (before after : Stores) → (same : Type 0) → (prints : Told → Type 0) → (goes_out : Option ℕ → Told → Type 0) → Task → Type 0
-Runs holds refuses before after same prints goes_out (Trial dim path policy) = (told : Told) × IfOk told (AnswersTrial holds dim path policy) × prints told
+Runs holds refuses before after same prints goes_out (Trial dim path policy) = same × ((told : Told) × IfOk told (AnswersTrial holds dim path policy) × prints told)
 Runs holds refuses before after same prints goes_out (Init file policy) =
     RunsOver before file (λ content told. AnswersWith (up_to policy_limit holds) refuses (after file) Makes content file policy told) prints
     × ((told : Told) × IsJudgedFirst (up_to policy_limit holds) same policy told × prints told)
@@ -41,8 +65,32 @@ Runs holds refuses before after same prints goes_out (Upgrade file id) = RunsOve
 Runs holds refuses before after same prints goes_out (Deliver file manifest) = RunsAlong before file (λ cut content told. AnswersDelivery holds refuses (after file) cut content file manifest told) goes_out
 Runs holds refuses before after same prints goes_out (Plan file kind id path) = RunsOver before file (λ content told. AnswersWith (as_input kind holds) refuses (after file) (Plans kind id) content file path told) prints
 Runs holds refuses before after same prints goes_out (Explain file kind path) = RunsOver before file (λ content told. AnswersExplanation holds refuses (after file) content file kind path told) prints
+Runs holds refuses before after same prints goes_out (Records file dim from) = RunsOver before file (λ content told. AnswersRecords refuses (after file) content file dim from told) prints
+Runs holds refuses before after same prints goes_out (Query file words) = RunsOver before file (λ content told. AnswersQuery refuses (after file) content file words told) prints
 Runs holds refuses before after same prints goes_out (Report file words) = RunsOver before file (λ content told. AnswersReport refuses (after file) content file words told) prints
 Runs holds refuses before after same prints goes_out (Reports file list) = RunsOver before file (λ content told. AnswersReports holds refuses (after file) content file list told) prints
 Runs holds refuses before after same prints goes_out (Dump file table) = RunsOverCommands before file (λ content told. AnswersDump refuses (after file) content file table told) prints
 Runs holds refuses before after same prints goes_out (Check file) = RunsOver before file (λ content told. AnswersCheck refuses (after file) content file told) prints
 Runs holds refuses before after same prints goes_out (Status file) = RunsOver before file (λ content told. AnswersStatus refuses (after file) content file told) prints
+Runs holds refuses before after same prints goes_out (Session file) = same × ((told : Told) × IfOk told (λ a. a ≡ refused session_line) × prints told)
+
+-- what is answered to a command before its warehouse is opened
+abbrev pub IsToldBefore : Files → Task → Printed → Type 0
+IsToldBefore holds (Init file policy) a = LacksPolicy (up_to policy_limit holds) policy a
+IsToldBefore holds (Load file kind id path) a = LacksFile (as_input (Batch kind) holds) path a
+IsToldBefore holds (Migrate file id policy) a = LacksFile (as_input Migration holds) policy a
+IsToldBefore holds (Deliver file manifest) a = LacksManifest holds manifest a
+IsToldBefore holds (Plan file kind id path) a = LacksFile (as_input kind holds) path a
+IsToldBefore holds (Explain file kind path) a = LacksInputAsked holds kind path a
+IsToldBefore holds (Reports file list) a = LacksList holds list a
+IsToldBefore holds (Session file) a = a ≡ refused session_line
+IsToldBefore holds task a = ⊥
+
+-- the name is one that the host can't open: then this holds
+abbrev pub WhenShut : (shut : List ℕ → Type 0) → Option (List ℕ) → (List ℕ → Type 0) → Type 0
+WhenShut shut None says = ⊤
+WhenShut shut (Some file) says = shut file → says file
+
+-- What is printed where the host can't open the warehouse's name: its line, or what is answered before; and nothing changed.
+abbrev pub RunsShut : (shut : List ℕ → Type 0) → Files → (same : Type 0) → (prints : Told → Type 0) → Task → Type 0
+RunsShut shut holds same prints task = WhenShut shut (warehouse_of task) (λ file. PrintsShut same (IsNoFileOr file (IsToldBefore holds task)) prints)

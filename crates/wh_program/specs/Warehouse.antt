@@ -208,6 +208,32 @@ AnswersUpgrade refuses stands content file id told = AnswersCommand refuses stan
 abbrev pub AnswersMaking : Refusals → (Standing → Type 0) → DatabaseContent → (file bytes : List ℕ) → Told → Type 0
 AnswersMaking refuses stands content file bytes told = IsTried stands (Makes bytes content) told ⊎ IsNotConnected refuses stands content file told
 
+-- ---- a warehouse that can't be opened
+
+-- nothing changed, and the answer is such a one, or memory ran out
+abbrev pub AnswersShut : (same : Type 0) → (Printed → Type 0) → Told → Type 0
+AnswersShut same answers told = same × IfOk told answers
+
+-- the same of an answer that is printed
+abbrev pub PrintsShut : (same : Type 0) → (Printed → Type 0) → (Told → Type 0) → Type 0
+PrintsShut same answers prints = same × ((told : Told) × IfOk told answers × prints told)
+
+-- the line of a file that can't be opened, or isn't there
+abbrev pub IsNoFile : (file : List ℕ) → Printed → Type 0
+IsNoFile file a = a ≡ failed (no_file_line file)
+
+-- so of the warehouse's, or what is answered before it is opened
+abbrev pub IsNoFileOr : (file : List ℕ) → (Printed → Type 0) → Printed → Type 0
+IsNoFileOr file before a = IsNoFile file a ⊎ before a
+
+-- an input isn't there
+abbrev pub LacksFile : Files → (path : List ℕ) → Printed → Type 0
+LacksFile holds path a = holds path None × IsNoFile path a
+
+-- the policy isn't there, or is a bad one
+abbrev pub LacksPolicy : Files → (path : List ℕ) → Printed → Type 0
+LacksPolicy holds path a = LacksFile holds path a ⊎ ((bytes : List ℕ) × holds path (Some bytes) × ((fault : PolicyFault) × (read_policy bytes ≡ Err fault) × (a ≡ refused (policy_line fault))))
+
 -- a bad policy has the line of its first fault as the answer, or memory ran out, and the host is the same as before
 abbrev pub IsJudged : (same : Type 0) → Result Policy PolicyFault → Told → Type 0
 IsJudged same (Ok policy) told = ⊤

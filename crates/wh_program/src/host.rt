@@ -1,6 +1,6 @@
 //! The files that a run can name, and the connections to those that are warehouses.
 
-ghost use Rattle.std.specs.Prelude.{◌≡◌, ◌≢◌, ℕ, suc, List, take, Option, Some, None, ⊤, IfOk, IfErr, OnErr, option_map};
+ghost use Rattle.std.specs.Prelude.{◌≡◌, ◌≢◌, ℕ, suc, List, take, Option, Some, None, ⊤, IfOk, IfErr, OnOk, OnErr, option_map};
 ghost use Rattle.sqlite.specs.Held.{state};
 ghost use Rattle.sqlite.specs.State.{HasCleanDisk};
 ghost use Rattle.wh_program.specs.Inputs.{up_to, manifest_limit, manifest_part, as_manifest};
@@ -31,13 +31,13 @@ pub trait Visitor: Drop {
     /// Over what the connection holds at rest, what is answered, what the writer holds before and after, and what then stands.
     ghost promises: { Self → DatabaseContent → Self.Output → Option (List ℕ) → Option (List ℕ) → Standing → Type 0 };
 
-    /// Works on the connection, and hands it back.
+    /// Works on the connection, and hands it back, and whether the store refused it a call: its files are then to be opened anew.
     fn visit<T: Alter + Drop, W: Write>(
         self,
         alloc: Global,
         connection: Connection<T>,
         out: &mut W,
-    ) -> (Self::Output, Connection<T>)
+    ) -> (Self::Output, Connection<T>, bool)
         ensures { HasCleanDisk (state T.Store result.1) → (content : DatabaseContent) → Stands (Rests content) (state T.Store connection)
             → (after : Standing) × promises self content result.0 (W.contents out.old) (W.contents out.new) after × Stands after (state T.Store result.1) };
 }
@@ -52,6 +52,9 @@ pub trait Host {
 
     /// The names under which it keeps no warehouse. A host that says nothing of them may refuse any.
     ghost refuses: { Self → List ℕ → Type 0 } = { λ _ _. ⊤ };
+
+    /// The names that it can't open as a warehouse's, such as a directory's. A host that says nothing of them knows of none.
+    ghost shut: { Self → List ℕ → Type 0 } = { λ _ _. ⊥ };
 
     /// Reads a file up to `most` bytes; a longer one is read a byte further, and no more.
     fn read(&self, alloc: Global, path: &str, most: usize) -> Result<Vec<u8>, HostError>
@@ -70,6 +73,7 @@ pub trait Host {
         ensures visited { (content : DatabaseContent) → stores self.old name.now (Rests content)
             → IfOk result (λ output. (after : Standing) × V.promises visitor content output (W.contents out.old) (W.contents out.new) after × stores self.new name.now after) }
         ensures refused { IfErr result (λ e. e ≡ NoFile → refuses self.old name.now) }
+        ensures shut { shut self.old name.now → OnOk result ⊥ × (self.new ≡ self.old) }
         ensures not_printed { OnErr result (W.contents out.new ≡ W.contents out.old) }
         ensures not_visited { OnErr result ((any : List ℕ) (standing : Standing) → stores self.old any standing → stores self.new any standing) }
         ensures others { (other : List ℕ) (standing : Standing) → other ≢ name.now → stores self.old other standing → stores self.new other standing };
@@ -86,6 +90,7 @@ pub trait Host {
         ensures visited { (content : DatabaseContent) → stores self.old name.now (Rests content)
             → IfOk result (λ output. (after : Standing) × V.promises visitor content output (W.contents out.old) (W.contents out.new) after × stores self.new name.now after) }
         ensures refused { IfErr result (λ e. e ≡ NoFile → refuses self.old name.now) }
+        ensures shut { shut self.old name.now → OnOk result ⊥ × (self.new ≡ self.old) }
         ensures not_printed { OnErr result (W.contents out.new ≡ W.contents out.old) }
         ensures not_visited { OnErr result ((any : List ℕ) (standing : Standing) → stores self.old any standing → stores self.new any standing) }
         ensures others { (other : List ℕ) (standing : Standing) → other ≢ name.now → stores self.old other standing → stores self.new other standing };

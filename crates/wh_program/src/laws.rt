@@ -1,8 +1,8 @@
-//! Laws of the inputs and the words of a run. They speak of the definitions alone and do nothing.
+//! Laws of the inputs of a run. They speak of the definitions alone and do nothing.
 
 ghost use Rattle.wh_batch.specs.Manifest.{manifest_of};
 ghost use Rattle.wh_batch.specs.ReportList.{reports_of};
-ghost use Rattle.wh_program.specs.Laws.{PoliciesAreReadSo, TrialsAreReadSo, CommandsAreReadSo, LongListsAreBad, WordsAreRead, OtherWordsAreNone};
+ghost use Rattle.wh_program.specs.Laws.{PoliciesAreReadSo, TrialsAreReadSo, CommandsAreReadSo, LongListsAreBad};
 
 /// Nothing is lost where an input is read to its limit and a byte: a policy, a trial's batch and a command are what the whole file makes
 /// them.
@@ -17,10 +17,4 @@ pub fn inputs_are_told_by_their_beginnings()
 pub fn long_manifests_are_bad()
     ensures manifests { LongListsAreBad manifest_of }
     ensures reports { LongListsAreBad reports_of }
-{}
-
-/// The words of a command ask for what it is to do. All other words without a hyphen in front ask for nothing.
-pub fn words_of_commands_are_read()
-    ensures read { WordsAreRead }
-    ensures others { OtherWordsAreNone }
 {}

@@ -5,18 +5,15 @@ mod host;
 pub mod laws;
 mod limits;
 mod lines;
-mod memory;
-mod named;
 mod output;
 mod program;
 mod visits;
-mod words;
 
 pub use host::{Host, HostError, Visitor, beginning_of};
-pub use lines::answer::Answer;
+pub use lines::answer::{Answer, Status};
 pub use lines::{
-    made, making_answer, opening_answer, plan_answer, room_for_line, room_for_receipt, sent_answer,
-    status_answer,
+    made, making_answer, no_file, opening_answer, plan_answer, room_for_line, room_for_receipt,
+    sent_answer, status_answer,
 };
-pub use memory::MemoryHost;
+pub use output::{print_answer, print_usage};
 pub use program::{run, run_without_words};

@@ -9,10 +9,11 @@ pub(crate) mod reports_text;
 ghost use Rattle.std.specs.Prelude.{◌≡◌, ◌+◌, ◌≤◌, ◌++◌, ℕ, List, IfOk, OnOk, codes, length, string_bytes, vec_capacity};
 ghost use Rattle.std.specs.Fmt.{decimal};
 ghost use Rattle.wh_explain.specs.Added.{Fits};
-ghost use Rattle.wh_program.specs.Answer.{status_code, done, refused, failed, line, no_file_line, batch_line, batch_fault_name, policy_line, policy_fault_name, wrong_word_line};
+ghost use Rattle.wh_program.specs.Answer.{status_code, done, refused, failed, no_file_line, batch_line, batch_fault_name, policy_line, policy_fault_name};
+ghost use Rattle.wh_words.specs.WrongWord.{line};
 ghost use Rattle.wh_program.specs.Delivery.{manifest_line};
 ghost use Rattle.wh_program.specs.Room.{TellsIn, longest_line, longest_answer, longest_reply};
-ghost use Rattle.wh_program.specs.Reply.{receipt_line, reply_answer, limit_name, full_line, sale_there_line, no_sale_line, refused_line, damaged_line, cause_name, store_line, fault_answer, sent_answer, plan_answer, wrong_line, verdict_answer, made_line, making_answer, opening_answer, members_line, totals_text, counts_text, status_answer};
+ghost use Rattle.wh_program.specs.Reply.{receipt_line, reply_answer, limit_name, full_line, sale_there_line, no_sale_line, refused_line, damaged_line, cause_name, store_line, fault_answer, records_answer, sent_answer, plan_answer, wrong_line, verdict_answer, made_line, making_answer, opening_answer, members_line, totals_text, counts_text, status_answer};
 
 use crate::lines::answer::{Answer, Status};
 use crate::lines::plan_text::plan_text;
@@ -20,7 +21,9 @@ use itoa::Buffer;
 use std::alloc::{AllocError, Global};
 use wh_batch::{BadManifest, BatchFault, FaultKind};
 use wh_checking::Verdict;
-use wh_engine::{Command, Counts, Fault, InitFault, Limit, OpenFault, Receipt, Refusal, Reply};
+use wh_engine::{
+    Command, Counts, Fault, InitFault, Limit, OpenFault, Part, Receipt, Refusal, Reply,
+};
 use wh_explain::push_number;
 use wh_plan::Edits;
 use wh_policy::PolicyFault;
@@ -32,24 +35,8 @@ pub const MEMORY_LINE: &[u8] = b"failed: E8 memory\n";
 /// The line where the output could not be written.
 pub const WRITE_LINE: &[u8] = b"failed: G4 write\n";
 
-/// What DIMENSION can be.
-pub const DIMENSIONS: &str = "product, store and customer";
-
-/// What KIND can be for a load.
-pub const KINDS: &str = "product, store, customer, sales and void";
-
-/// What KIND can be for a plan.
-pub const COMMAND_KINDS: &str = "product, store, customer, sales, void, migrate and upgrade";
-
-/// What MODE can be.
-pub const MODES: &str = "was, is and prior";
-
-/// What TABLE can be.
-pub const TABLES: &str =
-    "meta, command, member, change, product, store, customer, profile, calendar, fact, fact2 and void";
-
-/// The line where no word names a command.
-pub const NO_COMMAND_LINE: &str = "error: no command was given\n";
+/// The line where a session is asked for within another.
+pub const SESSION_LINE: &[u8] = b"refused: G5 session\n";
 
 /// The line where a word isn't text.
 pub const NO_TEXT_LINE: &[u8] = b"error: an argument is not valid UTF-8\n";
@@ -180,16 +167,14 @@ pub fn no_file(alloc: Global, path: &str) -> Result<Answer, AllocError>
     Ok(Answer::new(Status::Failed, line.into_bytes()))
 }
 
-/// The line where the word that was given for an operand is none of those that are possible.
-pub fn wrong_word_line(
-    alloc: Global,
-    operand: &str,
-    word: &str,
-    possible: &str,
-) -> Result<String, AllocError>
-    ensures { IfOk result (λ text. string_bytes text ≡ wrong_word_line operand.now word.now possible.now) }
+/// The answer to records that were read as a batch, or why they weren't.
+pub fn records_answer(alloc: Global, found: Result<Part, Fault>) -> Result<Answer, AllocError>
+    ensures { IfOk result (λ answer. answer ≡ records_answer found) }
 {
-    format!(in alloc; "error: {operand} is '{word}', and none of {possible}\n")
+    match found {
+        Ok(part) => Ok(Answer::new(Status::Done, part.text)),
+        Err(fault) => fault_answer(alloc, fault),
+    }
 }
 
 /// A line that is the same each time.

@@ -5,35 +5,39 @@ ghost use Rattle.std.specs.IoError.{error_kind};
 ghost use Rattle.std.specs.declared.io.ErrorKind.TheVariants.{OutOfMemory};
 ghost use Rattle.clap.specs.Words.{Kinds};
 ghost use Rattle.wh_program.specs.Answer.{Printed, status_code, wrong_words, no_text_line};
-ghost use Rattle.wh_program.specs.CommandLine.{CommandLine, Says};
-ghost use Rattle.wh_program.specs.Request.{IsDeclined, asked_in, task_in};
+ghost use Rattle.wh_words.specs.CommandLine.{CommandLine, Says};
+ghost use Rattle.wh_words.specs.Request.{IsDeclined, asked_in, task_in};
 ghost use Rattle.wh_program.specs.Run.{Declines, GoesOut, Prints, out_of_memory};
-ghost use Rattle.wh_program.specs.Task.{Task as TaskAsked, asked_by, faults_in, task_of};
-ghost use Rattle.wh_program.specs.Tasks.{Runs};
+ghost use Rattle.wh_words.specs.Task.{Task as TaskAsked, asked_by, faults_in, task_of};
+ghost use Rattle.wh_program.specs.Tasks.{Runs, RunsShut, SparesOthers, warehouse_of};
 ghost use Rattle.wh_program.specs.Warehouse.{printed};
 
 use crate::host::Host;
 use crate::lines::answer::Status;
-use crate::lines::{MEMORY_LINE, NO_TEXT_LINE};
+use crate::lines::{MEMORY_LINE, NO_TEXT_LINE, SESSION_LINE};
 use crate::output::{print, print_answer, print_usage};
 use crate::visits::delivery::deliver;
 use crate::visits::dump::print_dump;
 use crate::visits::explain::explain;
+use crate::visits::query::visit_query;
+use crate::visits::records::records;
 use crate::visits::report::visit_report;
 use crate::visits::reports::reports;
 use crate::visits::trial::trial;
 use crate::visits::verdict::check;
 use crate::visits::warehouse::{init, plan, send, status, upgrade};
-use crate::words::command::{Request, Task, parse};
 use std::alloc::Global;
 use std::convert::AsStr;
 use std::io;
 use std::io::Write;
 use wh_batch::CommandKind;
+use wh_words::{Request, Task, parse};
 
 /// Does what the words of a command ask for, and prints the answer.
 fn run_task<H: Host, W: Write>(alloc: Global, task: Task, host: &mut H, out: &mut W) -> Status
-    ensures { Runs (H.holds host.old) (H.refuses host.old) (H.stores host.old) (H.stores host.new) (host.new ≡ host.old) (λ told. Prints (W.contents out.old) (W.contents out.new) (status_code result) (printed told)) (λ cut told. GoesOut cut (W.contents out.old) (W.contents out.new) (status_code result) (printed told)) (task_in task.entry) }
+    ensures runs { Runs (H.holds host.old) (H.refuses host.old) (H.stores host.old) (H.stores host.new) (host.new ≡ host.old) (λ told. Prints (W.contents out.old) (W.contents out.new) (status_code result) (printed told)) (λ cut told. GoesOut cut (W.contents out.old) (W.contents out.new) (status_code result) (printed told)) (task_in task.entry) }
+    ensures others { SparesOthers (H.stores host.old) (H.stores host.new) (warehouse_of (task_in task.entry)) }
+    ensures shut { RunsShut (H.shut host.old) (H.holds host.old) (host.new ≡ host.old) (λ told. Prints (W.contents out.old) (W.contents out.new) (status_code result) (printed told)) (task_in task.entry) }
 {
     match task {
         Task::Trial { dim, path, policy } => {
@@ -64,11 +68,16 @@ fn run_task<H: Host, W: Write>(alloc: Global, task: Task, host: &mut H, out: &mu
         Task::Explain { file, kind, path } => {
             print_answer(out, explain(alloc, file, kind, path, host))
         }
+        Task::Records { file, dim, from } => {
+            print_answer(out, records(alloc, file, dim, from, host))
+        }
+        Task::Query { file, asked } => print_answer(out, visit_query(alloc, file, asked, host)),
         Task::Report { file, asked } => print_answer(out, visit_report(alloc, file, asked, host)),
         Task::Reports { file, list } => print_answer(out, reports(alloc, file, list, host)),
         Task::Dump { file, table } => print_dump(alloc, file, table, host, out),
         Task::Check { file } => print_answer(out, check(alloc, file, host)),
         Task::Status { file } => print_answer(out, status(alloc, file, host)),
+        Task::Session { .. } => print(out, Status::Refused, SESSION_LINE),
     }
 }
 
@@ -76,6 +85,8 @@ fn run_task<H: Host, W: Write>(alloc: Global, task: Task, host: &mut H, out: &mu
 fn run_request<H: Host, W: Write>(alloc: Global, request: Request, host: &mut H, out: &mut W) -> u8
     ensures runs { (task : TaskAsked) → asked_in request.entry ≡ Some (Ok task)
         → Runs (H.holds host.old) (H.refuses host.old) (H.stores host.old) (H.stores host.new) (host.new ≡ host.old) (λ told. Prints (W.contents out.old) (W.contents out.new) result (printed told)) (λ cut told. GoesOut cut (W.contents out.old) (W.contents out.new) result (printed told)) task }
+    ensures others { (task : TaskAsked) → asked_in request.entry ≡ Some (Ok task) → SparesOthers (H.stores host.old) (H.stores host.new) (warehouse_of task) }
+    ensures shut { (task : TaskAsked) → asked_in request.entry ≡ Some (Ok task) → RunsShut (H.shut host.old) (H.holds host.old) (host.new ≡ host.old) (λ told. Prints (W.contents out.old) (W.contents out.new) result (printed told)) task }
     ensures right_words { (task : TaskAsked) → asked_in request.entry ≡ Some (Ok task) → result ≢ 4 }
     ensures wrong_words { (line : List ℕ) → asked_in request.entry ≡ Some (Err line) → (host.new ≡ host.old) × Prints (W.contents out.old) (W.contents out.new) result (wrong_words line) }
     ensures declined { (faults : Kinds) → IsDeclined faults request.entry → (host.new ≡ host.old) × ((answer : Printed) × Declines faults answer × Prints (W.contents out.old) (W.contents out.new) result answer) }
@@ -100,6 +111,10 @@ pub fn run<S: AsStr, H: Host, W: Write>(alloc: Global, words: &[S], host: &mut H
     // Any words in which clap reads a command are run as that command.
     ensures reads { (task : TaskAsked) → asked_by (map S.text words.now) ≡ Some task
         → Runs (H.holds host.old) (H.refuses host.old) (H.stores host.old) (H.stores host.new) (host.new ≡ host.old) (λ told. Prints (W.contents out.old) (W.contents out.new) result (printed told)) (λ cut told. GoesOut cut (W.contents out.old) (W.contents out.new) result (printed told)) task × (result ≢ 4) }
+    // They leave what stands under other names as it was.
+    ensures others { (task : TaskAsked) → asked_by (map S.text words.now) ≡ Some task → SparesOthers (H.stores host.old) (H.stores host.new) (warehouse_of task) }
+    // Where the host can't open FILE, its line is the answer, or what is answered before it is opened, and the host is as it was.
+    ensures shut { (task : TaskAsked) → asked_by (map S.text words.now) ≡ Some task → RunsShut (H.shut host.old) (H.holds host.old) (host.new ≡ host.old) (λ told. Prints (W.contents out.old) (W.contents out.new) result (printed told)) task }
     // All other words leave the host as it was: the answer is help, or the version, where they ask for it, and else what is wrong with them.
     ensures declines { asked_by (map S.text words.now) ≡ None → (host.new ≡ host.old)
         × (((answer : Printed) × Declines (faults_in (map S.text words.now)) answer × Prints (W.contents out.old) (W.contents out.new) result answer)

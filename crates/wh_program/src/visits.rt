@@ -4,6 +4,8 @@ pub(crate) mod delivery;
 pub(crate) mod dump;
 pub(crate) mod explain;
 pub(crate) mod opened;
+pub(crate) mod query;
+pub(crate) mod records;
 pub(crate) mod report;
 pub(crate) mod reports;
 pub(crate) mod trial;

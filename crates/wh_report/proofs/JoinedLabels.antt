@@ -27,8 +27,8 @@ use Rattle.wh_report.specs.Labels.{LabelRows, labels_in, entry, first_text}
 use Rattle.wh_report.specs.Subject.{type_reading}
 use Rattle.wh_report.specs.declared.column.LabelColumn.{LabelColumn}
 use Rattle.wh_report.specs.declared.column.LabelColumn.TheVariants.{Main, Second, CurrentMain, FactProfile, CurrentProfile, CalendarMonth, CalendarHoliday}
-use Rattle.wh_report.specs.declared.mode.Mode.{Mode}
-use Rattle.wh_report.specs.declared.mode.Mode.TheVariants.{Was, Is, Prior}
+use Rattle.wh_batch.specs.declared.mode.Mode.{Mode}
+use Rattle.wh_batch.specs.declared.mode.Mode.TheVariants.{Was, Is, Prior}
 use Rattle.wh_report.specs.declared.subject.Reading.{Reading}
 use Rattle.wh_report.specs.declared.subject.Reading.TheVariants.{AtSaleDay, Latest, Original, PriorValue}
 use Rattle.wh_report.proofs.CurrentRows.{current_row, no_card_current, found_current}

@@ -1,5 +1,5 @@
 -- What sales come to by their keys, and by the labels that these lead to.
-use Rattle.std.proofs.Common.{◌≡◌, ℕ, suc, ◌==◌, ◌<◌, ◌≤◌, true, false, cond, ◌||◌, List, [], ◌∷◌, ◌++◌, map, length, Option, Some, None, Ok, Err, unwrap_or, refl, sym, ◌∙◌, ap, subst, arith, length-append, ℤ}
+use Rattle.std.proofs.Common.{◌≡◌, ℕ, suc, ◌==◌, ◌<◌, ◌≤◌, true, false, cond, ◌||◌, List, [], ◌∷◌, ◌++◌, map, length, Option, Some, None, Ok, Err, unwrap_or, refl, sym, ◌∙◌, ap, subst, arith, length-append}
 use Rattle.std.specs.Prelude.{filter, filter_map, flat_map, option_map, Contains, IsSome}
 use Rattle.std.specs.BTreeMap.{is_at}
 use Rattle.std.specs.List.{cons_option, list_any, AllByRecursion}
@@ -10,25 +10,28 @@ use Rattle.std.specs.Ordering.{is_eq, nat_cmp, MatchOrdering}
 use Rattle.std.specs.declared.cmp.Ordering.{Ordering}
 use Rattle.std.specs.declared.cmp.Ordering.TheVariants.{Less, Equal, Greater}
 use Rattle.std.proofs.lemmas.Bool.{eq-eqb, eqb-true}
-use Rattle.std.proofs.lemmas.List.{append-nil, map-append}
+use Rattle.std.proofs.lemmas.Cmp.{nat_list_cmp_total}
+use Rattle.std.proofs.lemmas.List.{append-nil, length-map, map-append}
 use Rattle.std.proofs.lemmas.List.Elements.{filter-append, Contains-append_right}
 use Rattle.std.proofs.lemmas.Map.Keys.{sorted_head, sorted_tail}
+use Rattle.wh_history.proofs.Basics.{some_is}
 use Rattle.wh_rows.specs.declared.keyed_sale.KeyedSale.{KeyedSale}
 use Rattle.wh_report.specs.Counting.{fault_of, measures_of, with_label, AreLabelled, HasNoLabel}
-use Rattle.wh_report.specs.KeySums.{has_key, unlabelled, figures_of, AreKeySums, IsLabelled}
+use Rattle.wh_report.specs.KeySums.{has_key, figures_of, AreKeySums, IsLabelled}
+use Rattle.wh_report.specs.Lines.{figures, lines}
 use Rattle.wh_report.specs.Sums.{Figures, Measured, nothing, with_line}
-use Rattle.wh_report.specs.Summary.{Sold, Summed, AreSoldAs, sum_of, totals, summed}
+use Rattle.wh_report.specs.Summary.{Sold, Summed, AreSoldAs, by_bytes, summed}
 use Rattle.wh_report.specs.declared.summary.AddError.{AddError}
 use Rattle.wh_report.specs.declared.summary.AddError.TheVariants.{Memory, Damaged}
-use Rattle.wh_report.proofs.Lines.{totals-append, total_is}
-use Rattle.wh_report.proofs.Orders.{with_sale, one_before}
-use Rattle.wh_report.proofs.Reports.{moved}
+use Rattle.wh_report.proofs.AddedLines.{figures-push, moved, after_one}
+use Rattle.wh_report.proofs.Summaries.{how_many, same_summed}
+use Rattle.wh_report.proofs.TextMaps.{same_label}
 
 -- ---- one sale more
 
-figures_push : (sales : List KeyedSale) (s : KeyedSale) → figures_of (sales ++ s ∷ []) ≡ Some (with_line (measures_of s) (unwrap_or (figures_of sales) nothing))
-figures_push [] s = ap Some (totals-append [] (unlabelled s))
-figures_push (t ∷ sales) s = ap Some (ap totals (map-append unlabelled (t ∷ sales) (s ∷ [])) ∙ totals-append (map unlabelled (t ∷ sales)) (unlabelled s))
+figures_of-push : (sales : List KeyedSale) (s : KeyedSale) → figures_of (sales ++ s ∷ []) ≡ Some (with_line (measures_of s) (unwrap_or (figures_of sales) nothing))
+figures_of-push [] s = ap Some (figures-push [] (measures_of s))
+figures_of-push (t ∷ sales) s = ap Some (ap figures (map-append measures_of (t ∷ sales) (s ∷ [])) ∙ figures-push (map measures_of (t ∷ sales)) (measures_of s))
 
 -- two numbers, by the order
 same_number : (k q : ℕ) → k ≡ q → is_eq (nat_cmp k q) ≡ true
@@ -71,7 +74,7 @@ one_key_more old new sales s m is are put = record { found = found }
               ∙ ap (λ b. cond b (Some (with_line m (unwrap_or (lookup (is_at (nat_cmp s.key)) old) nothing))) (lookup (is_at (nat_cmp q)) old)) (same_number s.key q same)
               ∙ ap (λ (o : Option Figures). Some (with_line m (unwrap_or o nothing))) (are.found s.key ∙ ap (λ k. figures_of (filter (has_key k) sales)) same)
               ∙ ap (λ (n : Measured). Some (with_line n (unwrap_or (figures_of (filter (has_key q) sales)) nothing))) is
-              ∙ sym (figures_push (filter (has_key q) sales) s)
+              ∙ sym (figures_of-push (filter (has_key q) sales) s)
           | false ↦ λ e.
               put q
               ∙ ap (λ b. cond b (Some (with_line m (unwrap_or (lookup (is_at (nat_cmp s.key)) old) nothing))) (lookup (is_at (nat_cmp q)) old)) (other_number s.key q e)
@@ -81,14 +84,7 @@ one_key_more old new sales s m is are put = record { found = found }
 
 figures_lines : (sales : List KeyedSale) (f : Figures) → figures_of sales ≡ Some f → f.lines ≡ length sales
 figures_lines [] f is = absurd cc
-figures_lines (s ∷ sales) f is = let e : totals (map unlabelled (s ∷ sales)) ≡ f = some_of _ _ is in sym (ap (λ (t : Figures). t.lines) e) ∙ length-unlabelled (s ∷ sales)
-  where
-    some_of : (x y : Figures) → Some x ≡ Some y → x ≡ y
-    some_of x y e = cc
-
-    length-unlabelled : (xs : List KeyedSale) → length (map unlabelled xs) ≡ length xs
-    length-unlabelled [] = refl
-    length-unlabelled (x ∷ xs) = ap suc (length-unlabelled xs)
+figures_lines (s ∷ sales) f is = sym (ap (λ (t : Figures). t.lines) (some_is (figures (map measures_of (s ∷ sales))) f is)) ∙ length-map (s ∷ sales) measures_of
 
 few_of_key : (key : ℕ) (sales : List KeyedSale) → length (filter (has_key key) sales) ≤ length sales
 few_of_key key [] = omega arith
@@ -113,21 +109,9 @@ key_full sums sales key f are is full = by_figures (figures_of (filter (has_key 
 abbrev sold_with : List ℕ → KeyedSale → Sold
 sold_with label s = record { label = label; measures = measures_of s }
 
-sum_labelled : (measure : Measured → ℤ) (label : List ℕ) (sales : List KeyedSale) → sum_of measure (map unlabelled sales) ≡ sum_of measure (map (sold_with label) sales)
-sum_labelled measure label [] = refl
-sum_labelled measure label (s ∷ sales) = let rest = sum_labelled measure label sales in cc
-
-length_labelled : (label : List ℕ) (sales : List KeyedSale) → length (map unlabelled sales) ≡ length (map (sold_with label) sales)
-length_labelled label [] = refl
-length_labelled label (s ∷ sales) = ap suc (length_labelled label sales)
-
-totals_labelled : (label : List ℕ) (sales : List KeyedSale) → totals (map unlabelled sales) ≡ totals (map (sold_with label) sales)
-totals_labelled label sales =
-    let n = length_labelled label sales in
-    let q = sum_labelled (λ m. m.quantity) label sales in
-    let a = sum_labelled (λ m. m.amount) label sales in
-    let k = sum_labelled (λ m. m.cost) label sales in
-    rw (n, q, a, k) refl
+measured : (label : List ℕ) (sales : List KeyedSale) → map measures_of sales ≡ map (λ (q : Sold). q.measures) (map (sold_with label) sales)
+measured label [] = refl
+measured label (s ∷ sales) = ap (λ ms. measures_of s ∷ ms) (measured label sales)
 
 all_labelled : (label : List ℕ) (sales : List KeyedSale) → AllByRecursion (λ (q : Sold). q.label ≡ label) (map (sold_with label) sales)
 all_labelled label [] = tt
@@ -135,12 +119,11 @@ all_labelled label (s ∷ sales) = (refl, all_labelled label sales)
 
 sold_some : (label : List ℕ) (f : Figures) (sales : List KeyedSale) → figures_of sales ≡ Some f → AreSoldAs label f (map (sold_with label) sales)
 sold_some label f [] is = absurd cc
-sold_some label f (s ∷ sales) is =
-    let e : totals (map unlabelled (s ∷ sales)) ≡ f = some_of _ _ is in
-    record { some = omega arith; labelled = all_labelled label (s ∷ sales); made = sym e ∙ totals_labelled label (s ∷ sales) }
-  where
-    some_of : (x y : Figures) → Some x ≡ Some y → x ≡ y
-    some_of x y e = cc
+sold_some label f (s ∷ sales) is = record {
+  some = omega arith;
+  labelled = all_labelled label (s ∷ sales);
+  made = sym (some_is (figures (map measures_of (s ∷ sales))) f is) ∙ ap figures (measured label (s ∷ sales));
+}
 
 module _ (labels : ℕ → Option (List ℕ)) where
   abbrev labelled : KeyedSale → Option Sold
@@ -213,13 +196,13 @@ none_at_all labels [] = refl
 none_at_all labels (k ∷ ks) = none_at_all labels ks
 
 module _ (labels : ℕ → Option (List ℕ)) where
-  all_moved : (x : Option Sold) (before after : List Sold) (sales : List Sold) → summed (before ++ after) ≡ summed sales → summed (before ++ cons_option x after) ≡ summed (cons_option x sales)
+  all_moved : (x : Option Sold) (before after : List Sold) (sales : List Sold) → lines by_bytes (before ++ after) ≡ lines by_bytes sales → lines by_bytes (before ++ cons_option x after) ≡ lines by_bytes (cons_option x sales)
   all_moved None before after sales same = same
-  all_moved (Some x) before after sales same = moved before after x ∙ sym (one_before (before ++ after) x) ∙ ap (with_sale x) same ∙ one_before sales x
+  all_moved (Some x) before after sales same = moved by_bytes nat_list_cmp_total same_label before after x ∙ after_one by_bytes nat_list_cmp_total same_label x (before ++ after) sales same
 
   -- the sales of all keys, one key after the other, come to what they come to in their own order
-  key_by_key : (sales : List KeyedSale) (ks : List ℕ) → IsStrictlySortedBy nat_cmp ks → AllByRecursion (λ (s : KeyedSale). list_any (is_at (nat_cmp s.key)) ks ≡ true) sales → summed (flat_map (of_key labels sales) ks) ≡ summed (filter_map (with_label labels) sales)
-  key_by_key [] ks up all = ap summed (none_at_all labels ks)
+  key_by_key : (sales : List KeyedSale) (ks : List ℕ) → IsStrictlySortedBy nat_cmp ks → AllByRecursion (λ (s : KeyedSale). list_any (is_at (nat_cmp s.key)) ks ≡ true) sales → lines by_bytes (flat_map (of_key labels sales) ks) ≡ lines by_bytes (filter_map (with_label labels) sales)
+  key_by_key [] ks up all = ap (lines by_bytes) (none_at_all labels ks)
   key_by_key (s ∷ sales) ks up all =
       let rest = key_by_key sales ks up all.1 in
       let x = with_label labels s in
@@ -228,7 +211,7 @@ module _ (labels : ℕ → Option (List ℕ)) where
       let elsewhere : (k : ℕ) → (s.key == k) ≡ false → of_key labels (s ∷ sales) k ≡ of_key labels sales k =
       λ k differs. ap (λ b. filter_map (with_label labels) (cond b (s ∷ filter (has_key k) sales) (filter (has_key k) sales))) differs in
       let place = placed (of_key labels sales) (of_key labels (s ∷ sales)) x s.key here elsewhere ks up all.0 in
-      ap summed place.is_with ∙ all_moved x place.before place.after (filter_map (with_label labels) sales) (ap summed (sym place.is_without) ∙ rest)
+      ap (lines by_bytes) place.is_with ∙ all_moved x place.before place.after (filter_map (with_label labels) sales) (ap (lines by_bytes) (sym place.is_without) ∙ rest)
 
 -- ---- the entries of a map
 
@@ -251,8 +234,8 @@ found_key key (e ∷ es) f is =
     elim (is_at (nat_cmp key) e.0) as (λ b. cond b (Some e.1) (lookup (is_at (nat_cmp key)) es) ≡ Some f → (b || list_any (is_at (nat_cmp key)) (keys_of es)) ≡ true) [ true ↦ λ _. refl | false ↦ λ more. found_key key es f more ] is
 
 figures_there : (before : List KeyedSale) (s : KeyedSale) (after : List KeyedSale) → (f : Figures) × (figures_of (before ++ s ∷ after) ≡ Some f)
-figures_there [] s after = (totals (map unlabelled (s ∷ after)), refl)
-figures_there (t ∷ before) s after = (totals (map unlabelled (t ∷ before ++ s ∷ after)), refl)
+figures_there [] s after = (figures (map measures_of (s ∷ after)), refl)
+figures_there (t ∷ before) s after = (figures (map measures_of (t ∷ before ++ s ∷ after)), refl)
 
 -- a sale that is there, by what its key comes to
 first_of : (key : ℕ) (sales : List KeyedSale) (f : Figures) → figures_of (filter (has_key key) sales) ≡ Some f → (s : KeyedSale) × Contains sales s × (s.key ≡ key)
@@ -267,7 +250,7 @@ first_of key (s ∷ sales) f is =
 
 -- what comes to the same has as many sales
 lengths_same : (sales others : List Sold) → summed sales ≡ summed others → length sales ≡ length others
-lengths_same sales others same = sym (ap (λ (t : Figures). t.lines) (total_is (summed sales) sales refl)) ∙ ap (λ (q : Summed). q.total.lines) same ∙ ap (λ (t : Figures). t.lines) (total_is (summed others) others refl)
+lengths_same sales others same = sym (how_many (summed sales) sales refl) ∙ how_many (summed sales) others same
 
 abbrev pub by_entries : (ℕ → Option (List ℕ)) → List KeyedSale → List (ℕ × Figures) → List Sold
 by_entries labels sales es = flat_map (of_key labels sales) (keys_of es)
@@ -322,7 +305,7 @@ module _ (labels : ℕ → Option (List ℕ)) (sums : List (ℕ × Figures)) (up
   all_keys = keys_there [] sales refl
 
   all_entries : summed (by_entries labels sales sums) ≡ summed (filter_map (with_label labels) sales)
-  all_entries = key_by_key labels sales (keys_of sums) up all_keys
+  all_entries = same_summed (by_entries labels sales sums) (filter_map (with_label labels) sales) (key_by_key labels sales (keys_of sums) up all_keys)
 
   -- none is left
   pub all_joined : (left : List (ℕ × Figures)) (summary : Summed) → IsJoined labels sales sums left summary → left ≡ [] → IsLabelled labels sales (Ok summary)

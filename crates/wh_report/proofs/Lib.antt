@@ -1,5 +1,4 @@
 pub mod DatedSales
-pub mod Orders
 pub mod WorkedReports
 pub mod WorkedDumps
 pub mod ReportLaws
@@ -12,9 +11,12 @@ pub mod FoundTexts
 pub mod Counted
 pub mod Entries
 pub mod KeyedSums
-pub mod Lines
 pub mod AddedLines
+pub mod MappedLines
+pub mod TextMaps
+pub mod Summaries
 pub mod Prefixes
+pub mod Ranges
 pub mod Reports
 pub mod Worked
 pub mod Outputs
@@ -28,3 +30,4 @@ pub mod ReadReports
 pub mod MappedRows
 pub mod ReportedHistory
 pub mod VoidedReports
+pub mod CarriedLabels

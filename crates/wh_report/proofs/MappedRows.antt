@@ -27,8 +27,6 @@ use Rattle.wh_model.proofs.Formatted.{facts_in_are}
 use Rattle.wh_model.proofs.Listed.{len-values}
 use Rattle.wh_rows.specs.Steps.{with_rows}
 use Rattle.wh_report.specs.Defined.{AreRowsOf}
-use Rattle.wh_report.specs.Summary.{Sold, summed}
-use Rattle.wh_report.proofs.Reports.{moved}
 use Rattle.wh_admission.proofs.StoredMaps.{each_found}
 
 -- ---- the rows of a map are those that it has under keys
@@ -95,24 +93,24 @@ module _ {K V : Type 0} (R : K → K → Ordering) where
   pub insert_between : IsTotalOrder R → (m : FinMap R V) (k : K) (v : V) → get m k ≡ None → Between (values m) (values (insert m k v)) v
   insert_between total m k v none = subst (λ es. Between (rows (entries m)) (rows es) v) (sym (entries-insert total m k v)) (put_between k v (entries m) (sym (get-entries m k) ∙ none))
 
--- ---- what facts come to
+-- ---- what facts come to, where the place of each among them doesn't matter
 
-module _ (counts : Fact → Option Sold) where
-  abbrev sums : List Fact → List Sold
+module _ {X Y : Type 0} (comes_to : List X → Y) (moves : (before after : List X) (x : X) → comes_to (before ++ x ∷ after) ≡ comes_to (x ∷ before ++ after)) (counts : Fact → Option X) where
+  abbrev sums : List Fact → List X
   sums facts = filter_map counts facts
 
   -- wherever the fact stands
-  sums_moved : (old new : List Fact) (f : Fact) → Between old new f → summed (sums new) ≡ summed (sums (f ∷ old))
+  sums_moved : (old new : List Fact) (f : Fact) → Between old new f → comes_to (sums new) ≡ comes_to (sums (f ∷ old))
   sums_moved old new f at =
-      let b : List Sold = sums at.before in
-      let a : List Sold = sums at.after in
+      let b : List X = sums at.before in
+      let a : List X = sums at.after in
       let news : sums new ≡ b ++ cons_option (counts f) a = ap sums at.is ∙ filter_map-append counts at.before (f ∷ at.after) in
       let olds : sums old ≡ b ++ a = ap sums at.was ∙ filter_map-append counts at.before at.after in
-      ap summed news ∙ in_front (counts f) b a ∙ ap (λ xs. summed (cons_option (counts f) xs)) (sym olds)
+      ap comes_to news ∙ in_front (counts f) b a ∙ ap (λ xs. comes_to (cons_option (counts f) xs)) (sym olds)
     where
-      in_front : (o : Option Sold) (b a : List Sold) → summed (b ++ cons_option o a) ≡ summed (cons_option o (b ++ a))
+      in_front : (o : Option X) (b a : List X) → comes_to (b ++ cons_option o a) ≡ comes_to (cons_option o (b ++ a))
       in_front None b a = refl
-      in_front (Some s) b a = moved b a s
+      in_front (Some x) b a = moves b a x
 
   -- no fact of the map has its key
   abbrev Misses : FinMap row.line_cmp Fact → Fact → Type 0
@@ -138,7 +136,7 @@ module _ (counts : Fact → Option Sold) where
   none_in_empty [] = tt
   none_in_empty (f ∷ fs) = (get-empty row.line_cmp (row.fact.key f), none_in_empty fs)
 
-  sums_put : (facts : List Fact) (m : FinMap row.line_cmp Fact) → Once facts → AllByRecursion (Misses m) facts → summed (sums (values (with_rows row.fact facts m))) ≡ summed (sums (facts ++ values m))
+  sums_put : (facts : List Fact) (m : FinMap row.line_cmp Fact) → Once facts → AllByRecursion (Misses m) facts → comes_to (sums (values (with_rows row.fact facts m))) ≡ comes_to (sums (facts ++ values m))
   unfolding IsDistinct
   sums_put [] m once missed = refl
   sums_put (f ∷ fs) m once missed =
@@ -151,7 +149,7 @@ module _ (counts : Fact → Option Sold) where
   none_of_empty (v ∷ vs) none = absurd (omega arith)
 
   -- the facts of a table are those of the sales that stand, in another order
-  pub sums_of_sales : (limits : Limits) (commands : List Accepted) (t : Tables) → AreOf limits commands t → IsDistinct same_line (standing commands) → summed (sums (values (facts_in (format_of commands) t))) ≡ summed (sums (map (fact_of commands) (standing commands)))
+  pub sums_of_sales : (limits : Limits) (commands : List Accepted) (t : Tables) → AreOf limits commands t → IsDistinct same_line (standing commands) → comes_to (sums (values (facts_in (format_of commands) t))) ≡ comes_to (sums (map (fact_of commands) (standing commands)))
   sums_of_sales limits commands t are once =
       let facts = map (fact_of commands) (standing commands) in
       let each = facts_once commands (standing commands) once in
@@ -160,6 +158,6 @@ module _ (counts : Fact → Option Sold) where
       let shows : (key : LineKey) → get (facts_in (format_of commands) t) key ≡ get made key = λ key.
       facts_in_are limits commands t are (format_of commands) refl key ∙ sym (found_mapped commands key (standing commands)) ∙ sym (facts_put facts no_facts key each ∙ ap (option_or (find_first (has_line key) facts)) (get-empty row.line_cmp key) ∙ option_or-none (find_first (has_line key) facts)) in
       let none : values no_facts ≡ [] = none_of_empty (values no_facts) (sym (len-values row.line_cmp no_facts) ∙ len-empty row.line_cmp Fact) in
-      ap (λ m. summed (sums (values m))) (same_map line_cmp_total line_cmp-IsAntisymmetric (facts_in (format_of commands) t) made shows)
+      ap (λ m. comes_to (sums (values m))) (same_map line_cmp_total line_cmp-IsAntisymmetric (facts_in (format_of commands) t) made shows)
       ∙ sums_put facts no_facts each (none_in_empty facts)
-      ∙ ap (λ vs. summed (sums (facts ++ vs))) none ∙ ap (λ fs. summed (sums fs)) (append-nil facts)
+      ∙ ap (λ vs. comes_to (sums (facts ++ vs))) none ∙ ap (λ fs. comes_to (sums fs)) (append-nil facts)

@@ -36,9 +36,9 @@ use Rattle.wh_report.specs.Laws.{EndsWith, total_line, TotalsAgree, Reads, Label
 use Rattle.wh_report.specs.Request.{is_asked_of}
 use Rattle.wh_report.specs.Summary.{Sold}
 use Rattle.wh_report.specs.Sums.{Measured}
-use Rattle.wh_report.specs.Words.{mode_word}
+use Rattle.wh_batch.specs.Mode.{mode_word}
 use Rattle.wh_report.specs.declared.column.LabelColumn.TheVariants.{CalendarMonth, CalendarHoliday}
-use Rattle.wh_report.specs.declared.mode.Mode.{Mode}
+use Rattle.wh_batch.specs.declared.mode.Mode.{Mode}
 use Rattle.wh_report.specs.declared.subject.Reading.{Reading}
 use Rattle.wh_report.specs.declared.subject.Subject.{Subject}
 use Rattle.wh_report.specs.declared.subject.Subject.TheVariants.{Attribute, Month, Holiday}

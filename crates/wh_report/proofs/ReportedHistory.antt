@@ -69,6 +69,7 @@ use Rattle.wh_report.specs.declared.subject.Reading.{Reading}
 use Rattle.wh_report.specs.declared.subject.Subject.{Subject}
 use Rattle.wh_report.proofs.DatedSales.{admitted_sales_are_dated}
 use Rattle.wh_report.proofs.MappedRows.{are_rows, each_under_key, sums_of_sales}
+use Rattle.wh_report.proofs.Summaries.{moved}
 use Rattle.wh_report.proofs.ReadReports.{asks_of}
 use Rattle.wh_report.proofs.ReportLaws.{counted_as, each_of, sales_labelled}
 use Rattle.wh_report.proofs.SummedFacts.{sale_of_fact}
@@ -102,7 +103,7 @@ module _ (limits : Limits) (commands : List Accepted) (t : Tables) (are : AreOf 
   days_defined : AreRowsOf (λ d. d.date_key) (calendar_at commands) (values t.calendar)
   days_defined = are_rows (λ (d : DateRow). d.date_key) (calendar_at commands) (dated_by (policy_after None commands)) t.calendar are.calendar
 
-  defined : (column : LabelColumn) → AreDefined commands column (label_rows column t)
+  pub defined : (column : LabelColumn) → AreDefined commands column (label_rows column t)
   defined (Main dim place) = dim_defined dim
   defined (Second dim place) = dim_defined dim
   defined (CurrentMain dim place) = dim_defined dim
@@ -113,7 +114,7 @@ module _ (limits : Limits) (commands : List Accepted) (t : Tables) (are : AreOf 
 
 -- ---- the facts
 
-few_facts : (limits : Limits) → are_limits limits ≡ true → limits.facts ≤ 1_000_000
+pub few_facts : (limits : Limits) → are_limits limits ≡ true → limits.facts ≤ 1_000_000
 few_facts limits within =
     let last = and_parts _ (nat_le 1 limits.facts && nat_le limits.facts 1_000_000) within in
     let most = and_parts (nat_le 1 limits.facts) (nat_le limits.facts 1_000_000) last.1 in
@@ -137,7 +138,7 @@ module _ (limits : Limits) (commands : List Accepted) (admitted : AreAdmitted li
 
   told : text_asked r (sold_by_keys (format_of commands) r column t) ≡ report commands subject which r
   told =
-      same_text r (sold_by_keys (format_of commands) r column t) (filter_map (counted r column (text_at column t)) (map (fact_of commands) (standing commands))) (sums_of_sales (counted r column (text_at column t)) limits commands t are (standing_once limits commands ok))
+      same_text r (sold_by_keys (format_of commands) r column t) (filter_map (counted r column (text_at column t)) (map (fact_of commands) (standing commands))) (sums_of_sales summed moved (counted r column (text_at column t)) limits commands t are (standing_once limits commands ok))
       ∙ ap (text_asked r) (counted_as commands subject which r (text_at column t) (standing commands) each_labelled)
 
   is_report : report_of commands r ≡ report commands subject which r
@@ -182,7 +183,7 @@ module _ (limits : Limits) (commands : List Accepted) (admitted : AreAdmitted li
 
 -- ---- over an engine that is ready
 
-wanting : (limits : Limits) (commands : List Accepted) (fault : Fault) (session : Session) (s : State) → IsServing {A = Unit {0}} limits commands (Err fault) session s → IsWanting fault
+pub wanting : (limits : Limits) (commands : List Accepted) (fault : Fault) (session : Session) (s : State) → IsServing {A = Unit {0}} limits commands (Err fault) session s → IsWanting fault
 wanting limits commands faults.Memory session s serves = tt
 wanting limits commands (faults.Store cause) session s serves = tt
 wanting limits commands (faults.Refused why) session s serves = absurd (cc serves.0)

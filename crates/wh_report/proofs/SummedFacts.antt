@@ -45,15 +45,15 @@ use Rattle.wh_report.specs.declared.fact.FactFault.TheVariants as uncountable
 use Rattle.wh_report.specs.declared.summary.AddError.{AddError}
 use Rattle.wh_report.specs.declared.summary.AddError.TheVariants.{Memory, Damaged}
 use Rattle.wh_report.proofs.Counted.{asked_counted, few_asked, one_asked, passed_over}
-use Rattle.wh_report.proofs.Orders.{any_order}
+use Rattle.wh_report.proofs.Summaries.{any_order}
 
 -- ---- one sale more
 
-all_before : {X : Type 0} (P : X → Type 0) (xs : List X) (x : X) → AllByRecursion P (xs ++ x ∷ []) → AllByRecursion P xs
+pub all_before : {X : Type 0} (P : X → Type 0) (xs : List X) (x : X) → AllByRecursion P (xs ++ x ∷ []) → AllByRecursion P xs
 all_before P [] x all = tt
 all_before P (y ∷ xs) x all = (all.0, all_before P xs x all.1)
 
-last_of : {X : Type 0} (P : X → Type 0) (xs : List X) (x : X) → AllByRecursion P (xs ++ x ∷ []) → P x
+pub last_of : {X : Type 0} (P : X → Type 0) (xs : List X) (x : X) → AllByRecursion P (xs ++ x ∷ []) → P x
 last_of P [] x all = all.0
 last_of P (y ∷ xs) x all = last_of P xs x all.1
 
@@ -106,13 +106,13 @@ last_three a b c d e f g h i j x y z all =
     let quantity = and_parts _ x amount.0 in
     (quantity.1, amount.1, cost.1)
 
-valid_measures : (column : LabelColumn) (f : Fact) → has_good_columns f ≡ true → IsMeasured (measures_of (keyed (label_column_fact_key column) f))
+pub valid_measures : (column : LabelColumn) (f : Fact) → has_good_columns f ≡ true → IsMeasured (measures_of (keyed (label_column_fact_key column) f))
 valid_measures column f valid =
     let last = last_three (is_key 20 f.ticket) (is_line f.line) (is_day f.day) (is_number f.keys.store_key) (is_number f.keys.product_key) (is_number f.keys.customer_key) (is_number f.store_durable) (is_number f.product_durable) (is_number f.customer_durable) (is_number f.keys.profile)
     (is_measure 9_999 f.quantity) (is_measure 999_999_999 f.amount) (is_measure 999_999_999 f.cost) valid in
     record { quantity = up_to 9_999 f.quantity last.0; amount = up_to 999_999_999 f.amount last.1; cost = up_to 999_999_999 f.cost last.2 }
 
-abbrev HasGoodColumns : Fact → Type 0
+abbrev pub HasGoodColumns : Fact → Type 0
 HasGoodColumns f = IsTrue (has_good_columns f)
 
 -- what is valid in either format has good columns
@@ -120,7 +120,7 @@ all_good : (rest : Fact → Bool) (es : List (LineKey × Fact)) → AllByRecursi
 all_good rest [] all = tt
 all_good rest (e ∷ es) all = ((and_parts (has_good_columns e.1) (rest e.1) all.0).0, all_good rest es all.1)
 
-good_facts : (db : Database) (t : Tables) → Stores db t → (format : Format) → AllByRecursion HasGoodColumns (values (facts_in format t))
+pub good_facts : (db : Database) (t : Tables) → Stores db t → (format : Format) → AllByRecursion HasGoodColumns (values (facts_in format t))
 good_facts db t stored One = all_good (λ f. f.discount == 0) (entries t.fact) stored.fact.valid
 good_facts db t stored Two = all_good (λ f. is_discount f.discount) (entries t.fact2) (valid_in t.format row.fact2 db.trees t.fact2 stored.fact2)
 
@@ -138,7 +138,7 @@ as_flat_map : {X Y : Type 0} (h : X → Option Y) (xs : List X) → filter_map h
 as_flat_map h [] = refl
 as_flat_map h (x ∷ xs) = elim (h x) as (λ o. cons_option o (filter_map h xs) ≡ option_to_list o ++ flat_map (λ y. option_to_list (h y)) xs) [ None ↦ as_flat_map h xs | Some y ↦ ap (λ l. y ∷ l) (as_flat_map h xs) ]
 
-reordered : {X Y : Type 0} (h : X → Option Y) (xs ys : List X) → IsPermutation xs ys → IsPermutation (filter_map h xs) (filter_map h ys)
+pub reordered : {X Y : Type 0} (h : X → Option Y) (xs ys : List X) → IsPermutation xs ys → IsPermutation (filter_map h xs) (filter_map h ys)
 reordered h xs ys same = rw (as_flat_map h xs, as_flat_map h ys) (IsPermutation-flat_map (λ x. option_to_list (h x)) xs ys same)
 
 -- a sale of the range is that of a fact

@@ -1,5 +1,5 @@
 -- A batch of voids takes its own sales out of each report, and leaves the labels of the others.
-use Rattle.std.proofs.Common.{◌≡◌, ℕ, Bool, true, false, cond, List, [], ◌∷◌, ◌++◌, Option, Some, None, refl, sym, ◌∙◌, ap}
+use Rattle.std.proofs.Common.{◌≡◌, ℕ, true, false, cond, List, [], ◌∷◌, ◌++◌, Option, Some, None, refl, ◌∙◌, ap}
 use Rattle.std.specs.Prelude.{map, filter, option_map, unwrap_or}
 use Rattle.wh_day.specs.Holidays.{holiday_text}
 use Rattle.wh_policy.specs.declared.policy.Policy.{Policy}
@@ -10,10 +10,10 @@ use Rattle.wh_history.specs.Accepted.{Accepted, Withdraws, member_of_sale, withd
 use Rattle.wh_history.specs.declared.member.Member.{Member}
 use Rattle.wh_history.proofs.Standing.{standing-voided}
 use Rattle.wh_history.proofs.Stays.{policy_last}
-use Rattle.wh_model.proofs.QuietLists.{IsQuiet, member_quiet}
+use Rattle.wh_model.proofs.QuietLists.{member_quiet}
 use Rattle.wh_model.proofs.WithdrawnRows.{quiet, no_policy}
 use Rattle.wh_report.specs.Asked.{Asked}
-use Rattle.wh_report.specs.Label.{label, labelled, member_label, shown, sold_as_asked}
+use Rattle.wh_report.specs.Label.{label, labelled, member_label, shown}
 use Rattle.wh_report.specs.Laws.{VoidsTakeTheirSales}
 use Rattle.wh_report.specs.Request.{is_asked_of}
 use Rattle.wh_report.specs.Summary.{Sold}

@@ -5,7 +5,8 @@ use Rattle.std.specs.Map.{lookup}
 use Rattle.std.specs.Ordering.{nat_cmp}
 use Rattle.wh_rows.specs.declared.keyed_sale.KeyedSale.{KeyedSale}
 use Rattle.wh_report.specs.Counting.{measures_of, with_label, AreLabelled, HasNoLabel}
-use Rattle.wh_report.specs.Summary.{Sold, Summed, summed, totals}
+use Rattle.wh_report.specs.Lines.{figures}
+use Rattle.wh_report.specs.Summary.{Summed, summed}
 use Rattle.wh_report.specs.Sums.{Figures}
 use Rattle.wh_report.specs.declared.fact.FactFault.{FactFault}
 use Rattle.wh_report.specs.declared.fact.FactFault.TheVariants.{Memory, NoLabel, Damaged}
@@ -14,14 +15,10 @@ use Rattle.wh_report.specs.declared.fact.FactFault.TheVariants.{Memory, NoLabel,
 abbrev pub has_key : ℕ → KeyedSale → Bool
 has_key key s = s.key == key
 
--- a sale without its label
-abbrev pub unlabelled : KeyedSale → Sold
-unlabelled s = record { label = []; measures = measures_of s }
-
 -- what sales come to, where there are any
 abbrev pub figures_of : List KeyedSale → Option Figures
 figures_of [] = None
-figures_of (s ∷ sales) = Some (totals (map unlabelled (s ∷ sales)))
+figures_of (s ∷ sales) = Some (figures (map measures_of (s ∷ sales)))
 
 -- The figures that a map has under each key are those of the sales that have it.
 pub record AreKeySums (sums : List (ℕ × Figures)) (sales : List KeyedSale) : Type 0 where

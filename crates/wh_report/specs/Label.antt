@@ -13,7 +13,7 @@ use Rattle.wh_report.specs.Asked.{Asked}
 use Rattle.wh_report.specs.Request.{is_asked_of}
 use Rattle.wh_report.specs.Summary.{Sold}
 use Rattle.wh_report.specs.Text.{report_text}
-use Rattle.wh_report.specs.Words.{mode_word}
+use Rattle.wh_batch.specs.Mode.{mode_word}
 use Rattle.wh_report.specs.declared.subject.Reading.{Reading}
 use Rattle.wh_report.specs.declared.subject.Reading.TheVariants.{AtSaleDay, Latest, Original, PriorValue}
 use Rattle.wh_report.specs.declared.subject.Subject.{Subject}

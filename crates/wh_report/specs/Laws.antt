@@ -1,7 +1,6 @@
 -- What holds of every report.
 use Rattle.std.specs.Prelude.{◌≡◌, ℕ, ℤ, pos, ◌+ℤ◌, List, [], ◌∷◌, ◌++◌, map, filter, filter_map, sum_by, codes, Some, None, IsSome, Contains}
 use Rattle.std.specs.List.{AllByRecursion}
-use Rattle.std.specs.declared.cmp.Ordering.TheVariants.{Less}
 use Rattle.wh_policy.specs.Written.{IsSound}
 use Rattle.wh_policy.specs.declared.policy.Policy.{Policy}
 use Rattle.wh_policy.specs.declared.record.SaleRecord.{SaleRecord}
@@ -17,31 +16,19 @@ use Rattle.wh_report.specs.Defined.{AreDefined}
 use Rattle.wh_report.specs.Joined.{column_of, fact_key}
 use Rattle.wh_report.specs.Label.{label, labelled, sold_as_asked, report}
 use Rattle.wh_report.specs.Labels.{LabelRows, labels_in, first_text, labels_get, AreLabels}
+use Rattle.wh_report.specs.Lines.{figures}
 use Rattle.wh_report.specs.Request.{is_asked_of}
 use Rattle.wh_report.specs.Subject.{subject_in, reading_of}
 use Rattle.wh_report.specs.Sums.{Measured, Figures, margin}
-use Rattle.wh_report.specs.Summary.{Sold, Summed, by_bytes, totals, summed}
+use Rattle.wh_report.specs.Summary.{Sold, Summed, summed}
 use Rattle.wh_report.specs.Text.{line_text}
-use Rattle.wh_report.specs.declared.mode.Mode.{Mode}
+use Rattle.wh_batch.specs.declared.mode.Mode.{Mode}
 use Rattle.wh_report.specs.declared.subject.Reading.{Reading}
 use Rattle.wh_report.specs.declared.subject.Subject.{Subject}
 
--- each is greater than all before it
-abbrev pub Rises : List ℕ → List (List ℕ) → Type 0
-Rises low [] = Unit {0}
-Rises low (l ∷ ls) = (by_bytes low l ≡ Less) × Rises l ls
-
-abbrev pub Rise : List (List ℕ) → Type 0
-Rise [] = Unit {0}
-Rise (l ∷ ls) = Rises l ls
-
--- sales without their labels
-abbrev pub unlabelled : List Measured → List Sold
-unlabelled = map (λ m. record { label = []; measures = m })
-
 -- the line of the total, in which no label occurs
 unfoldable pub total_line : List Measured → List ℕ
-total_line measures = line_text (codes "total") (totals (unlabelled measures))
+total_line measures = line_text (codes "total") (figures measures)
 
 -- a text ends with a line
 pub record EndsWith (text line : List ℕ) : Type 0 where

@@ -1,5 +1,5 @@
-pub mod Words
 pub mod Sums
+pub mod Lines
 pub mod Summary
 pub mod Maps
 pub mod Text
@@ -19,3 +19,4 @@ pub mod Output
 pub mod CsvBuffer
 pub mod Reported
 pub mod Tallied
+pub mod Carried

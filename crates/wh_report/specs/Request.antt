@@ -5,7 +5,7 @@ use Rattle.wh_day.specs.Day.{read_day}
 use Rattle.wh_policy.specs.declared.policy.Policy.{Policy}
 use Rattle.wh_report.specs.Asked.{Asked}
 use Rattle.wh_report.specs.Subject.{subject_in, reading_of}
-use Rattle.wh_report.specs.declared.mode.Mode.{Mode}
+use Rattle.wh_batch.specs.declared.mode.Mode.{Mode}
 use Rattle.wh_report.specs.declared.subject.Subject.{Subject}
 use Rattle.wh_report.specs.declared.subject.Subject.TheVariants.{Attribute, Month, Holiday}
 use Rattle.wh_report.specs.declared.request.RequestFault.{RequestFault}
@@ -16,14 +16,22 @@ no_reading (Attribute a) mode = NoReading a.kind mode
 no_reading Month mode = NoDateReading mode
 no_reading Holiday mode = NoDateReading mode
 
+-- what the first and the last day make, where they are a range
+abbrev pub days_make : {A : Type 0} → Option ℕ → Option ℕ → (ℕ → ℕ → A) → Result A RequestFault
+days_make from to make = do
+  first ← ok_or from BadRange
+  last ← ok_or to BadRange
+  unless_fault (not (nat_lt last first)) BadRange (Ok (make first last))
+
+-- the same of days that are written YYYY-MM-DD
+abbrev pub range_makes : {A : Type 0} → List ℕ → List ℕ → (ℕ → ℕ → A) → Result A RequestFault
+range_makes from to make = days_make (read_day from) (read_day to) make
+
 -- the request that the words make, or the first fault: no attribute, no reading, no range
 unfoldable pub read_request : Policy → List ℕ → Mode → List ℕ → List ℕ → Result Asked RequestFault
 read_request policy words mode from to = do
   subject ← ok_or (subject_in policy words) NoAttribute
-  unless_fault (is_some (reading_of subject mode)) (no_reading subject mode) (do
-    first ← ok_or (read_day from) BadRange
-    last ← ok_or (read_day to) BadRange
-    unless_fault (not (nat_lt last first)) BadRange (Ok (record { words = words; mode = mode; from = first; to = last })))
+  unless_fault (is_some (reading_of subject mode)) (no_reading subject mode) (range_makes from to (λ first last. record { words = words; mode = mode; from = first; to = last }))
 
 abbrev pub subject_reads : Mode → Option Subject → Bool
 subject_reads mode None = false

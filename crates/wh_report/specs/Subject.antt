@@ -9,8 +9,8 @@ use Rattle.wh_policy.specs.declared.attribute.AttributeType.TheVariants.{RetainO
 use Rattle.wh_policy.specs.declared.attribute.Dim.{Dim}
 use Rattle.wh_policy.specs.declared.attribute.Dim.TheVariants.{Product, Store, Customer}
 use Rattle.wh_policy.specs.declared.policy.Policy.{Policy}
-use Rattle.wh_report.specs.declared.mode.Mode.{Mode}
-use Rattle.wh_report.specs.declared.mode.Mode.TheVariants.{Was, Is, Prior}
+use Rattle.wh_batch.specs.declared.mode.Mode.{Mode}
+use Rattle.wh_batch.specs.declared.mode.Mode.TheVariants.{Was, Is, Prior}
 use Rattle.wh_report.specs.declared.subject.Reading.{Reading}
 use Rattle.wh_report.specs.declared.subject.Reading.TheVariants.{AtSaleDay, Latest, Original, PriorValue}
 use Rattle.wh_report.specs.declared.subject.Subject.{Subject}

@@ -144,7 +144,7 @@ fn labels_by_profiles<S: Alter>(
 }
 
 /// The labels of a column, under the keys of facts.
-pub(crate) fn labels_of<S: Alter>(
+pub fn labels_of<S: Alter>(
     alloc: Global,
     engine: &mut Engine<S>,
     column: LabelColumn,

@@ -21,7 +21,7 @@ const FULL: usize = 24 * 1024;
 /// Lines that are gathered, and the fields of the last of them. The lines that are whole are kept apart from the writer that
 /// makes them, since one for which memory ran out may leave a piece there.
 #[derive(Drop)]
-pub(crate) struct CsvBuffer {
+pub struct CsvBuffer {
     fields: StringRecord,
     made: Writer<Vec<u8>>,
     lines: Vec<u8>,
@@ -60,7 +60,8 @@ fn catch_up(lines: &mut Vec<u8>, made: &[u8]) -> Result<(), AllocError>
 }
 
 impl CsvBuffer {
-    pub(crate) fn new(alloc: Global) -> CsvBuffer
+    /// No line yet.
+    pub fn new(alloc: Global) -> CsvBuffer
         ensures { Gathers result [] }
     {
         CsvBuffer {
@@ -78,6 +79,14 @@ impl CsvBuffer {
         gather_line(&mut self.made, &self.fields)?;
         flush_lines(&mut self.made)?;
         catch_up(&mut self.lines, self.made.get_ref())
+    }
+
+    /// Adds the line of these fields.
+    pub fn add_fields(&mut self, fields: StringRecord) -> Result<(), AllocError>
+        ensures { OnOk result ((text : List ℕ) → Gathers self.old text → Gathers self.new (text ++ row_text default_writer (fields_of fields))) }
+    {
+        self.fields = fields;
+        self.add()
     }
 
     /// Adds the line of the columns' names.
@@ -107,7 +116,7 @@ impl CsvBuffer {
     }
 
     /// The lines.
-    pub(crate) fn into_lines(self) -> Vec<u8>
+    pub fn into_lines(self) -> Vec<u8>
         ensures { (text : List ℕ) → Gathers self text → result.items ≡ text }
     {
         let CsvBuffer {

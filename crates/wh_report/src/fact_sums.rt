@@ -26,7 +26,7 @@ use wh_rows::{KeyedSale, Table};
 use wh_store::FactAggregate;
 
 /// The table of the facts of a format.
-fn facts_table(format: Format) -> Table
+pub fn facts_table(format: Format) -> Table
     ensures { result ≡ facts_table format }
 {
     match format {

@@ -2,9 +2,11 @@
 
 ghost use Rattle.std.specs.Prelude.{◌≡◌, ℕ, List, bytes_eq};
 ghost use Rattle.std.specs.List.{list_any};
-ghost use Rattle.std.specs.List.Sorted.{IsPermutation};
-ghost use Rattle.wh_report.specs.Summary.{Sold, labels, summed};
-ghost use Rattle.wh_report.specs.Laws.{Rise, TotalsAgree, LinesAddUp, LabelsByKeys, FactsAreCounted, AdmittedSalesAreDated, VoidsTakeTheirSales};
+ghost use Rattle.std.specs.List.Sorted.{IsPermutation, IsStrictlySortedBy};
+ghost use Rattle.wh_report.specs.Lines.{labels};
+ghost use Rattle.wh_report.specs.Summary.{Sold, by_bytes, summed};
+ghost use Rattle.wh_report.specs.Carried.{LabelsAreCarried, LabelsGoOn, ReportsAreCarried, ReportsGoOn};
+ghost use Rattle.wh_report.specs.Laws.{TotalsAgree, LinesAddUp, LabelsByKeys, FactsAreCounted, AdmittedSalesAreDated, VoidsTakeTheirSales};
 
 /// Over one range the line of the total is the same for every attribute and mode: it is made from the measures of the
 /// range's sales alone.
@@ -20,8 +22,8 @@ pub fn lines_add_up()
 
 /// The labels of a report are those that a sale has, each once, in order of their bytes.
 pub fn labels_are_a_set()
-    ensures order { (sales : List Sold) → Rise (labels sales) }
-    ensures members { (sales : List Sold) (label : List ℕ) → list_any (bytes_eq label) (labels sales) ≡ list_any (λ s. bytes_eq label s.label) sales }
+    ensures order { (sales : List Sold) → IsStrictlySortedBy by_bytes (labels by_bytes sales) }
+    ensures members { (sales : List Sold) (label : List ℕ) → list_any (bytes_eq label) (labels by_bytes sales) ≡ list_any (λ s. bytes_eq label s.label) sales }
 {}
 
 /// The order of the sales doesn't matter.
@@ -45,4 +47,14 @@ pub fn sales_are_dated()
 /// label.
 pub fn voids_take_their_sales()
     ensures { VoidsTakeTheirSales }
+{}
+
+/// In a file that carries the members of another, each sale has the label that it would have there, for each attribute and each mode
+/// that has a reading. So the same sales make the same report.
+pub fn labels_are_carried()
+    ensures labels { LabelsAreCarried }
+    ensures reports { ReportsAreCarried }
+    // Whatever both record further, late or not, each sale has the label that it would have in the older file.
+    ensures labels_on { LabelsGoOn }
+    ensures reports_on { ReportsGoOn }
 {}

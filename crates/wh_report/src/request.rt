@@ -1,14 +1,16 @@
 //! Which reports can be asked for.
 
-ghost use Rattle.std.specs.Prelude.{◌≡◌};
+ghost use Rattle.std.specs.Prelude.{◌≡◌, ok_or};
 ghost use Rattle.wh_day.specs.Reading.{Gives};
-ghost use Rattle.wh_report.specs.Request.{read_request, is_asked_of, has_reading, no_reading};
+ghost use Rattle.wh_report.specs.Request.{read_request, range_makes, is_asked_of, subject_reads, has_reading, no_reading};
+ghost use Rattle.wh_report.specs.Subject.{subject_in};
+ghost use Rattle.wh_report.specs.declared.request.RequestFault.TheVariants.{BadRange};
 
-use crate::mode::Mode;
 use crate::subject::{Subject, reading_of, subject_in};
 use std::alloc::Global;
 use std::marker::Model;
 use thiserror::Error;
+use wh_batch::Mode;
 use wh_day::{Day, ParseError};
 use wh_policy::{AttributeType, Policy};
 
@@ -67,15 +69,9 @@ impl Request {
         if reading_of(subject, mode).is_none() {
             return Err(ParseError::Fault(no_reading(subject, mode)));
         }
-        let Some(first) = Day::read(from) else {
+        let Some((first, last)) = read_range(from, to) else {
             return Err(ParseError::Fault(RequestFault::BadRange));
         };
-        let Some(last) = Day::read(to) else {
-            return Err(ParseError::Fault(RequestFault::BadRange));
-        };
-        if last < first {
-            return Err(ParseError::Fault(RequestFault::BadRange));
-        }
         Ok(Request {
             words: String::from_str(alloc, attribute)?,
             mode,
@@ -89,10 +85,7 @@ impl Request {
     pub fn reads(&self, policy: &Policy) -> bool
         ensures { result ≡ has_reading policy.now self.now }
     {
-        match subject_in(policy, self.words.as_str()) {
-            Some(subject) => reading_of(subject, self.mode).is_some(),
-            None => false,
-        }
+        has_reading(policy, self.words.as_str(), self.mode)
     }
 
     /// The words for the attribute, as they were given.
@@ -129,6 +122,28 @@ impl Request {
     {
         self.from <= day && day <= self.to
     }
+}
+
+/// Whether the attribute of these words has a reading in a mode under a policy. Takes no memory.
+pub fn has_reading(policy: &Policy, words: &str, mode: Mode) -> bool
+    ensures { result ≡ subject_reads mode (subject_in policy.now words.now) }
+{
+    match subject_in(policy, words) {
+        Some(subject) => reading_of(subject, mode).is_some(),
+        None => false,
+    }
+}
+
+/// The first and the last day, both written `YYYY-MM-DD`, where they are a range.
+pub fn read_range(from: &[u8], to: &[u8]) -> Option<(Day, Day)>
+    ensures { ok_or result BadRange ≡ range_makes from.now to.now (λ first last. (first, last)) }
+{
+    let first = Day::read(from)?;
+    let last = Day::read(to)?;
+    if last < first {
+        return None;
+    }
+    Some((first, last))
 }
 
 fn no_reading(subject: Subject, mode: Mode) -> RequestFault

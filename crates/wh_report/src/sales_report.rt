@@ -95,7 +95,7 @@ pub fn report<S: Alter>(
 }
 
 /// Writes a text out that was worked out.
-fn write_worked<W: Write>(
+pub fn write_worked<W: Write>(
     worked: Result<Vec<u8>, ReportFault>,
     out: &mut W,
 ) -> Result<(), ReportFault>

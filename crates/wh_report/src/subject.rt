@@ -3,7 +3,7 @@
 ghost use Rattle.std.specs.Prelude.{◌≡◌, option_map};
 ghost use Rattle.wh_report.specs.Subject.{after, attribute_in, subject_in, type_reading, reading_of};
 
-use crate::mode::Mode;
+use wh_batch::Mode;
 use wh_policy::{AttributeType, Dim, Policy};
 
 /// Which of a member's values a reading shows.

@@ -60,7 +60,7 @@ impl Model for Summary {
 
 impl Summary {
     /// No sale yet.
-    #[tactic(auto, unfolding(crate::specs::Summary::summed))]
+    #[tactic(auto, unfolding(crate::specs::Lines::lines, crate::specs::Summary::summed))]
     pub fn new(alloc: Global) -> Summary
         ensures { result ≡ summed [] }
     {
@@ -96,7 +96,7 @@ fn totals_under(lines: &BTreeMap<String, Totals>, label: &str) -> Totals
     lines.get(label).copied().unwrap_or(Totals::new())
 }
 
-#[tactic(auto, using(crate::proofs::Lines::insert_by_text))]
+#[tactic(auto, using(crate::proofs::TextMaps::insert_by_text))]
 fn put(
     alloc: Global,
     lines: &mut BTreeMap<String, Totals>,

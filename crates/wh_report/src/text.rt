@@ -36,7 +36,7 @@ fn hundredths(alloc: Global, count: u64) -> Result<String, AllocError>
 
 /// An amount of money in hundredths.
 #[tactic(auto, unfolding(crate::specs::Text::money))]
-fn money(alloc: Global, amount: i64) -> Result<String, AllocError>
+pub fn money(alloc: Global, amount: i64) -> Result<String, AllocError>
     ensures { IfOk result (λ s. string_bytes s ≡ money amount) }
 {
     let size = hundredths(alloc, amount.unsigned_abs())?;

@@ -1,7 +1,7 @@
 -- Keys as SQL compares them.
 use Rattle.std.proofs.Common.{arith, ◌≡◌, inl, inr, ℕ, ℤ, pos, List, [], ◌∷◌, Bool, true, false, Some, ◌&&◌, ◌||◌, refl, sym, ap, ◌∙◌, Ordering, Less, Equal, Greater}
 use Rattle.std.specs.Prelude.{unwrap_or, ◌<◌, ◌<ℤ◌, Option, None, bytes_eq}
-use Rattle.std.specs.Ordering.{is_eq, is_ne, is_gt, is_ge, is_le, eq_by_cmp, int_cmp, nat_cmp, MatchOrdering}
+use Rattle.std.specs.Ordering.{is_eq, is_ne, is_gt, is_ge, eq_by_cmp, int_cmp, nat_cmp, MatchOrdering}
 use Rattle.std.specs.Cmp.{eq_by_cmp_equiv, ranks, int_cmp_is}
 use Rattle.std.specs.Cmp.Lexicographic.{slice_cmp, nat_list_cmp_total}
 use Rattle.std.proofs.lemmas.Cmp.{int_cmp_total}
@@ -18,7 +18,7 @@ use Rattle.sqlite_sql.specs.Ops.{binary, truth, from_truth, is_true, or3}
 use Rattle.sqlite_sql.specs.declared.ops.BinaryOp.TheVariants.{Or}
 use Rattle.sqlite_value.specs.declared.value.Value.{Value}
 use Rattle.sqlite_schema.specs.Rules.{equal, differ}
-use Rattle.wh_rows.specs.Questions.{at_least, at_most, greater}
+use Rattle.wh_rows.specs.Questions.{at_least, greater}
 
 pub trimmed : (b : Bool) → ((b && true) || false) ≡ b
 trimmed true = refl
@@ -79,10 +79,6 @@ greater-Text s t = truth_is (is_gt (value_cmp (Text s) (Text t))) ∙ ap is_gt (
 pub at_least-Nat : (a b : ℕ) → at_least (Int (pos a)) (Int (pos b)) ≡ is_ge (nat_cmp a b)
 unfolding binary
 at_least-Nat a b = truth_is (is_ge (value_cmp (Int (pos a)) (Int (pos b)))) ∙ ap is_ge (sorted-Nat a b)
-
-pub at_most-Nat : (a b : ℕ) → at_most (Int (pos a)) (Int (pos b)) ≡ is_le (nat_cmp a b)
-unfolding binary
-at_most-Nat a b = truth_is (is_le (value_cmp (Int (pos a)) (Int (pos b)))) ∙ ap is_le (sorted-Nat a b)
 
 pub at_least-Text : (s t : List ℕ) → at_least (Text s) (Text t) ≡ is_ge (slice_cmp nat_cmp s t)
 unfolding binary

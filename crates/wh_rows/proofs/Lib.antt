@@ -17,6 +17,7 @@ pub mod Counts
 pub mod Others
 pub mod EachTable
 pub mod KeyedSales
+pub mod LinkedSales
 pub mod ColumnLemmas
 pub mod Exact
 pub mod Orders
@@ -36,3 +37,4 @@ pub mod BehindStored
 pub mod Inserts
 pub mod EachInsert
 pub mod InsertedRows
+pub mod Since

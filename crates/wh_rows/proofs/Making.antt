@@ -129,29 +129,11 @@ customer_by_durable = schema.index (codes "customer_by_durable") 0 schema.custom
 abbrev with_15 : Schema
 with_15 = indexed with_14 schema.customer customer_by_durable
 
-abbrev fact_by_store : Index
-fact_by_store = schema.index (codes "fact_by_store") 0 schema.fact.tree (7 ∷ 3 ∷ []) false
-
-abbrev with_16 : Schema
-with_16 = indexed with_15 schema.fact fact_by_store
-
-abbrev fact_by_product : Index
-fact_by_product = schema.index (codes "fact_by_product") 0 schema.fact.tree (8 ∷ 3 ∷ []) false
-
-abbrev with_17 : Schema
-with_17 = indexed with_16 schema.fact fact_by_product
-
-abbrev fact_by_customer : Index
-fact_by_customer = schema.index (codes "fact_by_customer") 0 schema.fact.tree (9 ∷ 3 ∷ []) false
-
-abbrev with_18 : Schema
-with_18 = indexed with_17 schema.fact fact_by_customer
-
 abbrev profile_by_values : Index
 profile_by_values = schema.index (codes "profile_by_values") 0 schema.profile.tree (2 ∷ 3 ∷ 4 ∷ 5 ∷ 6 ∷ 7 ∷ []) false
 
-abbrev with_19 : Schema
-with_19 = indexed with_18 schema.profile profile_by_values
+abbrev with_16 : Schema
+with_16 = indexed with_15 schema.profile profile_by_values
 
 makes_meta : MakesTable with_0 schema.create_meta with_1
 unfolding understood everything
@@ -213,23 +195,11 @@ makes_customer_by_durable : MakesIndex with_14 schema.create_customer_by_durable
 unfolding understood everything
 makes_customer_by_durable = record { at = 6; table = schema.customer; has = refl; command = refl; whole = refl; plain = (refl, refl); index = customer_by_durable; defined = refl; is = refl }
 
-makes_fact_by_store : MakesIndex with_15 schema.create_fact_by_store with_16
-unfolding understood everything
-makes_fact_by_store = record { at = 9; table = schema.fact; has = refl; command = refl; whole = refl; plain = (refl, refl); index = fact_by_store; defined = refl; is = refl }
-
-makes_fact_by_product : MakesIndex with_16 schema.create_fact_by_product with_17
-unfolding understood everything
-makes_fact_by_product = record { at = 9; table = schema.fact; has = refl; command = refl; whole = refl; plain = (refl, refl); index = fact_by_product; defined = refl; is = refl }
-
-makes_fact_by_customer : MakesIndex with_17 schema.create_fact_by_customer with_18
-unfolding understood everything
-makes_fact_by_customer = record { at = 9; table = schema.fact; has = refl; command = refl; whole = refl; plain = (refl, refl); index = fact_by_customer; defined = refl; is = refl }
-
-makes_profile_by_values : MakesIndex with_18 schema.create_profile_by_values with_19
+makes_profile_by_values : MakesIndex with_15 schema.create_profile_by_values with_16
 unfolding understood everything
 makes_profile_by_values = record { at = 7; table = schema.profile; has = refl; command = refl; whole = refl; plain = (refl, refl); index = profile_by_values; defined = refl; is = refl }
 
-all_made : with_19 ≡ warehouse
+all_made : with_16 ≡ warehouse
 unfolding everything
 all_made = refl
 
@@ -331,24 +301,9 @@ makes_all = (
                               refl,
                               (
                                 with_16,
-                                inr makes_fact_by_store,
+                                inr makes_profile_by_values,
                                 refl,
-                                (
-                                  with_17,
-                                  inr makes_fact_by_product,
-                                  refl,
-                                  (
-                                    with_18,
-                                    inr makes_fact_by_customer,
-                                    refl,
-                                    (
-                                      with_19,
-                                      inr makes_profile_by_values,
-                                      refl,
-                                      all_made,
-                                    ),
-                                  ),
-                                ),
+                                all_made,
                               ),
                             ),
                           ),

@@ -153,7 +153,7 @@ fact2 db stored is k = go stored.format (λ i. stored.format)
     go One first = none_once (stored.rows Fact2) (stands_at_line k) (subst (λ f. IsPermutation (rows_shown f Fact2 db.trees) (stored.rows Fact2)) first (is.rows Fact2))
     go Two second =
         let at : IsStored (record stored { format = Two }) db = subst (λ f. IsStored (record stored { format = f }) db) second is in
-        seen_once schema.fact2 _ _ (stands_at_line k) _ (λ r. refl) (at.rows Fact2) (two_apart db (record stored { format = Two }) at 10 schema.fact2 refl 15 (codes "sqlite_autoindex_fact2_1") 26 refl refl (Text k.ticket) (Int (pos k.line)))
+        seen_once schema.fact2 _ _ (stands_at_line k) _ (λ r. refl) (at.rows Fact2) (two_apart db (record stored { format = Two }) at 10 schema.fact2 refl 12 (codes "sqlite_autoindex_fact2_1") 23 refl refl (Text k.ticket) (Int (pos k.line)))
 
 pub void : StandsOnce stands_at_line Void
 void db stored is k = go stored.format (λ i. stored.format)
@@ -162,4 +162,4 @@ void db stored is k = go stored.format (λ i. stored.format)
     go One first = none_once (stored.rows Void) (stands_at_line k) (subst (λ f. IsPermutation (rows_shown f Void db.trees) (stored.rows Void)) first (is.rows Void))
     go Two second =
         let at : IsStored (record stored { format = Two }) db = subst (λ f. IsStored (record stored { format = f }) db) second is in
-        seen_once schema.void _ _ (stands_at_line k) _ (λ r. refl) (at.rows Void) (two_apart db (record stored { format = Two }) at 11 schema.void refl 16 (codes "sqlite_autoindex_void_1") 28 refl refl (Text k.ticket) (Int (pos k.line)))
+        seen_once schema.void _ _ (stands_at_line k) _ (λ r. refl) (at.rows Void) (two_apart db (record stored { format = Two }) at 11 schema.void refl 13 (codes "sqlite_autoindex_void_1") 25 refl refl (Text k.ticket) (Int (pos k.line)))

@@ -1,5 +1,5 @@
 -- Making the tables and indexes of the second format where the first stands over rows.
-use Rattle.std.proofs.Common.{◌≡◌, ℕ, codes, List, [], ◌∷◌, ◌++◌, map, false, inl, inr, Ok, refl, sym, ap, subst, ◌∙◌}
+use Rattle.std.proofs.Common.{◌≡◌, ℕ, List, [], ◌∷◌, ◌++◌, map, inl, inr, Ok, refl, sym, ap, subst, ◌∙◌}
 use Rattle.std.specs.Prelude.{nat_le, IsTrue}
 use Rattle.std.specs.List.{AllByRecursion}
 use Rattle.std.specs.List.Sorted.{IsPermutation}
@@ -7,11 +7,10 @@ use Rattle.std.specs.FinMap.{FinMap, values}
 use Rattle.sqlite.specs.Table.{Table}
 use Rattle.sqlite.specs.Tree.{Trees}
 use Rattle.sqlite.specs.Schema.{Schema}
-use Rattle.sqlite.specs.Change.{created, indexed, next_tree, KeepsRows}
+use Rattle.sqlite.specs.Change.{created, next_tree, KeepsRows}
 use Rattle.sqlite.specs.Effect.{Database, IsDatabase}
 use Rattle.sqlite.specs.Listing.{understood}
 use Rattle.sqlite.specs.State.{State, Executes}
-use Rattle.sqlite_schema.specs.declared.schema.Index.{Index}
 use Rattle.sqlite_tied.specs.Compute.{everything}
 use Rattle.wh_policy.specs.declared.format.Format.TheVariants.{One, Two}
 use Rattle.wh_policy.specs.Formats.{is_two}
@@ -20,7 +19,7 @@ use Rattle.wh_rows.specs.Schema.{warehouse, schema_in}
 use Rattle.wh_rows.specs.Holds.{Layout, values_of, Holds, IsRising}
 use Rattle.wh_rows.specs.Tables.{Tables, Stores}
 use Rattle.wh_rows.specs.Rows as row
-use Rattle.wh_rows.specs.Making.{MakesTable, MakesIndex, Extends, LeadsOver, before_tree, upgrading_texts}
+use Rattle.wh_rows.specs.Making.{MakesTable, Extends, LeadsOver, before_tree, upgrading_texts}
 use Rattle.wh_rows.proofs.Making.{made, indexes, holds_none}
 use Rattle.wh_rows.proofs.Formats.{absent_in}
 
@@ -32,24 +31,6 @@ with_fact2 = created warehouse (record schema.fact2 { tree = 0 })
 abbrev with_void : Schema
 with_void = created with_fact2 (record schema.void { tree = 0 })
 
-abbrev fact2_by_store : Index
-fact2_by_store = schema.index (codes "fact2_by_store") 0 schema.fact2.tree (7 ∷ 3 ∷ []) false
-
-abbrev with_stores : Schema
-with_stores = indexed with_void schema.fact2 fact2_by_store
-
-abbrev fact2_by_product : Index
-fact2_by_product = schema.index (codes "fact2_by_product") 0 schema.fact2.tree (8 ∷ 3 ∷ []) false
-
-abbrev with_products : Schema
-with_products = indexed with_stores schema.fact2 fact2_by_product
-
-abbrev fact2_by_customer : Index
-fact2_by_customer = schema.index (codes "fact2_by_customer") 0 schema.fact2.tree (9 ∷ 3 ∷ []) false
-
-abbrev with_customers : Schema
-with_customers = indexed with_products schema.fact2 fact2_by_customer
-
 makes_fact2 : MakesTable warehouse schema.create_fact2 with_fact2
 unfolding understood everything
 makes_fact2 = record { command = refl; whole = refl; plain = (refl, refl); table = record schema.fact2 { tree = 0 }; defined = refl; is = refl; uncounted = refl }
@@ -58,24 +39,12 @@ makes_void : MakesTable with_fact2 schema.create_void with_void
 unfolding understood everything
 makes_void = record { command = refl; whole = refl; plain = (refl, refl); table = record schema.void { tree = 0 }; defined = refl; is = refl; uncounted = refl }
 
-makes_fact2_by_store : MakesIndex with_void schema.create_fact2_by_store with_stores
-unfolding understood everything
-makes_fact2_by_store = record { at = 10; table = schema.fact2; has = refl; command = refl; whole = refl; plain = (refl, refl); index = fact2_by_store; defined = refl; is = refl }
-
-makes_fact2_by_product : MakesIndex with_stores schema.create_fact2_by_product with_products
-unfolding understood everything
-makes_fact2_by_product = record { at = 10; table = schema.fact2; has = refl; command = refl; whole = refl; plain = (refl, refl); index = fact2_by_product; defined = refl; is = refl }
-
-makes_fact2_by_customer : MakesIndex with_products schema.create_fact2_by_customer with_customers
-unfolding understood everything
-makes_fact2_by_customer = record { at = 10; table = schema.fact2; has = refl; command = refl; whole = refl; plain = (refl, refl); index = fact2_by_customer; defined = refl; is = refl }
-
-is_second : with_customers ≡ schema_in Two
+is_second : with_void ≡ schema_in Two
 unfolding everything
 is_second = refl
 
 -- the texts lead from the one format to the other, and each table that they make lies behind the trees of the first
-pub makes_second : LeadsOver 25 (schema_in One) upgrading_texts (schema_in Two)
+pub makes_second : LeadsOver 22 (schema_in One) upgrading_texts (schema_in Two)
 makes_second = (
   with_fact2,
   inl makes_fact2,
@@ -84,12 +53,7 @@ makes_second = (
     with_void,
     inl makes_void,
     refl,
-    (
-      with_stores,
-      inr makes_fact2_by_store,
-      refl,
-      (with_products, inr makes_fact2_by_product, refl, (with_customers, inr makes_fact2_by_customer, refl, is_second)),
-    ),
+    is_second,
   ),
 )
 
@@ -124,7 +88,7 @@ held_on : {K V : Type 0} (layout : Layout K V) (old new : Trees) (rows : FinMap 
 held_on layout old new rows same held = record { rows_are = subst (λ l. IsPermutation (map (values_of layout.table) l) (map layout.encode (values rows))) (sym same) held.rows_are; keyed = held.keyed; valid = held.valid }
 
 -- a database of the first format, with the trees of the second and no row in them, stores the same tables in the second
-pub stores_second : (old new : Database) (t : Tables) → t.format ≡ One → Stores old t → new.schema ≡ schema_in Two → IsDatabase new → KeepsRows (schema_in Two).tables (before_tree 25 old.trees) new.trees
+pub stores_second : (old new : Database) (t : Tables) → t.format ≡ One → Stores old t → new.schema ≡ schema_in Two → IsDatabase new → KeepsRows (schema_in Two).tables (before_tree 22 old.trees) new.trees
     → Stores new (record t { format = Two })
 stores_second old new t first stored is sound so = record {
   schema = is;

@@ -24,6 +24,8 @@ pub mod AtRest
 pub mod Raw
 pub mod Rekey
 pub mod KeyedSales
+pub mod LinkedSales
 pub mod Steps
 pub mod Inserting
 pub mod Parts
+pub mod Since

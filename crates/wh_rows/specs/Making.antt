@@ -65,8 +65,8 @@ before_tree least trees tree = if nat_le least tree then [] else trees tree
 abbrev pub making_texts : List (List ℕ)
 making_texts =
     schema.create_meta ∷ schema.create_command ∷ schema.create_member ∷ schema.create_change ∷ schema.create_product ∷ schema.create_store ∷ schema.create_customer ∷ schema.create_profile ∷ schema.create_calendar ∷ schema.create_fact
-    ∷ schema.create_change_by_member ∷ schema.create_change_by_anchor ∷ schema.create_product_by_durable ∷ schema.create_store_by_durable ∷ schema.create_customer_by_durable ∷ schema.create_fact_by_store ∷ schema.create_fact_by_product ∷ schema.create_fact_by_customer ∷ schema.create_profile_by_values ∷ []
+    ∷ schema.create_change_by_member ∷ schema.create_change_by_anchor ∷ schema.create_product_by_durable ∷ schema.create_store_by_durable ∷ schema.create_customer_by_durable ∷ schema.create_profile_by_values ∷ []
 
 -- the texts that make the second format of it, where the first stands
 abbrev pub upgrading_texts : List (List ℕ)
-upgrading_texts = schema.create_fact2 ∷ schema.create_void ∷ schema.create_fact2_by_store ∷ schema.create_fact2_by_product ∷ schema.create_fact2_by_customer ∷ []
+upgrading_texts = schema.create_fact2 ∷ schema.create_void ∷ []

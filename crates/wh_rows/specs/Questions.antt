@@ -5,7 +5,7 @@ use Rattle.sqlite_value.specs.declared.value.Value.{Value}
 use Rattle.sqlite_value.specs.declared.value.Value.TheVariants.{Int, Text}
 use Rattle.sqlite_sql.specs.Ops.{binary, is_true}
 use Rattle.sqlite_sql.specs.declared.ops.BinaryOp.TheVariants.{Compare}
-use Rattle.sqlite_sql.specs.declared.ops.CompareOp.TheVariants.{Ge, Gt, Le}
+use Rattle.sqlite_sql.specs.declared.ops.CompareOp.TheVariants.{Ge, Gt}
 use Rattle.sqlite_schema.specs.Rules.{equal}
 use Rattle.sqlite.specs.Collation.TheVariants.{Binary}
 use Rattle.sqlite.specs.Order.{Row, column}
@@ -17,10 +17,6 @@ use Rattle.wh_rows.specs.Types.{dim_number}
 -- whether SQL's >= is true of two values
 abbrev pub at_least : Value → Value → Bool
 at_least a b = is_true (binary (Compare Ge Binary) a b)
-
--- whether SQL's <= is
-abbrev pub at_most : Value → Value → Bool
-at_most a b = is_true (binary (Compare Le Binary) a b)
 
 -- whether SQL's > is
 abbrev pub greater : Value → Value → Bool
@@ -71,10 +67,6 @@ abbrev pub durable_column : Dim → ℕ
 durable_column Product = 7
 durable_column Store = 6
 durable_column Customer = 8
-
--- a fact of a member of this dimension from one day to another
-abbrev pub is_sale_between : Dim → ℕ → ℕ → ℕ → Row → Bool
-is_sale_between dim durable from to r = equal Binary (column r (durable_column dim)) (Int (pos durable)) && (at_least (column r 2) (Int (pos from)) && (at_most (column r 2) (Int (pos to)) && true))
 
 -- ---- by the row that they are of
 

@@ -1,4 +1,4 @@
--- The schema of the warehouse: ten tables, in the second format two more, their keys, and the indexes that members' rows, changes and facts are found by.
+-- The schema of the warehouse: ten tables, in the second format two more, their keys, and the indexes that members' rows and changes are found by.
 use Rattle.std.specs.Prelude.{ℕ, List, [], ◌∷◌, ◌++◌, codes, map, Option, Some, None, Bool, false, true}
 use Rattle.sqlite.specs.Collation.TheVariants.{Binary}
 use Rattle.sqlite_value.specs.declared.value.Value.TheVariants.{Null}
@@ -96,15 +96,6 @@ create_store_by_durable = codes "CREATE INDEX store_by_durable ON store (durable
 abbrev pub create_customer_by_durable : List ℕ
 create_customer_by_durable = codes "CREATE INDEX customer_by_durable ON customer (durable)"
 
-abbrev pub create_fact_by_store : List ℕ
-create_fact_by_store = codes "CREATE INDEX fact_by_store ON fact (store_durable, day)"
-
-abbrev pub create_fact_by_product : List ℕ
-create_fact_by_product = codes "CREATE INDEX fact_by_product ON fact (product_durable, day)"
-
-abbrev pub create_fact_by_customer : List ℕ
-create_fact_by_customer = codes "CREATE INDEX fact_by_customer ON fact (customer_durable, day)"
-
 abbrev pub create_profile_by_values : List ℕ
 create_profile_by_values = codes "CREATE INDEX profile_by_values ON profile (v1, v2, v3, v4, v5, v6)"
 
@@ -115,15 +106,6 @@ create_fact2 = codes "CREATE TABLE fact2 (ticket TEXT NOT NULL, line INTEGER NOT
 
 abbrev pub create_void : List ℕ
 create_void = codes "CREATE TABLE void (ticket TEXT NOT NULL, line INTEGER NOT NULL, command INTEGER NOT NULL, PRIMARY KEY (ticket, line))"
-
-abbrev pub create_fact2_by_store : List ℕ
-create_fact2_by_store = codes "CREATE INDEX fact2_by_store ON fact2 (store_durable, day)"
-
-abbrev pub create_fact2_by_product : List ℕ
-create_fact2_by_product = codes "CREATE INDEX fact2_by_product ON fact2 (product_durable, day)"
-
-abbrev pub create_fact2_by_customer : List ℕ
-create_fact2_by_customer = codes "CREATE INDEX fact2_by_customer ON fact2 (customer_durable, day)"
 
 -- ---- the tables
 
@@ -270,7 +252,7 @@ fact = table (codes "fact") 14 None (1 ∷ 2 ∷ []) ((1 ∷ 2 ∷ []) ∷ [])
     ∷ integer (codes "cost") ∷ [])
 
 abbrev pub fact2 : Table
-fact2 = table (codes "fact2") 25 None (1 ∷ 2 ∷ []) ((1 ∷ 2 ∷ []) ∷ [])
+fact2 = table (codes "fact2") 22 None (1 ∷ 2 ∷ []) ((1 ∷ 2 ∷ []) ∷ [])
     (text (codes "ticket")
     ∷ integer (codes "line")
     ∷ integer (codes "day")
@@ -287,7 +269,7 @@ fact2 = table (codes "fact2") 25 None (1 ∷ 2 ∷ []) ((1 ∷ 2 ∷ []) ∷ [])
     ∷ integer (codes "discount") ∷ [])
 
 abbrev pub void : Table
-void = table (codes "void") 27 None (1 ∷ 2 ∷ []) ((1 ∷ 2 ∷ []) ∷ [])
+void = table (codes "void") 24 None (1 ∷ 2 ∷ []) ((1 ∷ 2 ∷ []) ∷ [])
     (text (codes "ticket")
     ∷ integer (codes "line")
     ∷ integer (codes "command") ∷ [])
@@ -307,10 +289,7 @@ warehouse = record {
       ∷ index (codes "product_by_durable") 18 9 (2 ∷ []) false
       ∷ index (codes "store_by_durable") 19 10 (2 ∷ []) false
       ∷ index (codes "customer_by_durable") 20 11 (2 ∷ []) false
-      ∷ index (codes "fact_by_store") 21 14 (7 ∷ 3 ∷ []) false
-      ∷ index (codes "fact_by_product") 22 14 (8 ∷ 3 ∷ []) false
-      ∷ index (codes "fact_by_customer") 23 14 (9 ∷ 3 ∷ []) false
-      ∷ index (codes "profile_by_values") 24 12 (2 ∷ 3 ∷ 4 ∷ 5 ∷ 6 ∷ 7 ∷ []) false ∷ [];
+      ∷ index (codes "profile_by_values") 21 12 (2 ∷ 3 ∷ 4 ∷ 5 ∷ 6 ∷ 7 ∷ []) false ∷ [];
   views = [];
 }
 
@@ -322,11 +301,8 @@ tables_added Two = fact2 ∷ void ∷ []
 abbrev pub indexes_added : Format → List Index
 indexes_added One = []
 indexes_added Two =
-    index (codes "sqlite_autoindex_fact2_1") 26 25 (1 ∷ 2 ∷ []) true
-    ∷ index (codes "sqlite_autoindex_void_1") 28 27 (1 ∷ 2 ∷ []) true
-    ∷ index (codes "fact2_by_store") 29 25 (7 ∷ 3 ∷ []) false
-    ∷ index (codes "fact2_by_product") 30 25 (8 ∷ 3 ∷ []) false
-    ∷ index (codes "fact2_by_customer") 31 25 (9 ∷ 3 ∷ []) false ∷ []
+    index (codes "sqlite_autoindex_fact2_1") 23 22 (1 ∷ 2 ∷ []) true
+    ∷ index (codes "sqlite_autoindex_void_1") 25 24 (1 ∷ 2 ∷ []) true ∷ []
 
 -- A warehouse of a format. Its first ten tables are the same in both, so most texts are understood alike, whichever it is.
 abbrev pub schema_in : Format → Schema

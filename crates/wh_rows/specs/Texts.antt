@@ -166,15 +166,3 @@ last_profile = codes "SELECT * FROM profile ORDER BY number DESC LIMIT 1"
 -- the profile of a combination
 abbrev pub profile_of_values : List ℕ
 profile_of_values = codes "SELECT * FROM profile WHERE v1 = ?1 AND v2 = ?2 AND v3 = ?3 AND v4 = ?4 AND v5 = ?5 AND v6 = ?6 ORDER BY number"
-
--- the facts of a member of this dimension from one day to another
-abbrev pub sales_between : Dim → List ℕ
-sales_between Product = codes "SELECT * FROM fact WHERE product_durable = ?1 AND day >= ?2 AND day <= ?3 ORDER BY ticket, line"
-sales_between Store = codes "SELECT * FROM fact WHERE store_durable = ?1 AND day >= ?2 AND day <= ?3 ORDER BY ticket, line"
-sales_between Customer = codes "SELECT * FROM fact WHERE customer_durable = ?1 AND day >= ?2 AND day <= ?3 ORDER BY ticket, line"
-
--- the facts of the second format of a member of this dimension from one day to another
-abbrev pub sales_between2 : Dim → List ℕ
-sales_between2 Product = codes "SELECT * FROM fact2 WHERE product_durable = ?1 AND day >= ?2 AND day <= ?3 ORDER BY ticket, line"
-sales_between2 Store = codes "SELECT * FROM fact2 WHERE store_durable = ?1 AND day >= ?2 AND day <= ?3 ORDER BY ticket, line"
-sales_between2 Customer = codes "SELECT * FROM fact2 WHERE customer_durable = ?1 AND day >= ?2 AND day <= ?3 ORDER BY ticket, line"

@@ -1,7 +1,8 @@
-//! Scenarios of the engine, by what they are about. `engine` of `wh_warehouse_tests` says what their words mean.
+//! Scenarios of the engine, by what they are about. `engine` of `wh_engine_tests` says what their words mean.
 
 pub mod bands;
 pub mod batches;
+pub mod carrying;
 pub mod deliveries;
 pub mod limits;
 pub mod migrations;

@@ -21,7 +21,9 @@ pub mod program;
 pub mod reading;
 mod scenario;
 pub mod store;
+mod words;
 
 pub use bytes::bytes_of;
 pub use policy::{FLAT, changed_flat};
 pub use scenario::{Driver, NotMade, Step, check, difference, parted, push_line};
+pub use words::{number, place, push_number};

@@ -1,4 +1,4 @@
-//! Scenarios of the program, by what they are about. `program` of `wh_warehouse_tests` says what their words mean, and `program::answers`
+//! Scenarios of the program, by what they are about. `program` of `wh_program_tests` says what their words mean, and `program::answers`
 //! those of `answers`.
 
 pub mod answers;
@@ -8,6 +8,7 @@ pub mod dumps;
 pub mod explained;
 pub mod explained_faults;
 pub mod lists;
+pub mod queries;
 pub mod refused_reports;
 pub mod reports;
 pub mod trials;

@@ -113,19 +113,19 @@ all_kept [] least trees low = tt
 all_kept (t ∷ ts) least trees low = (rw low.0 refl, all_kept ts least trees low.1)
 
 -- at first there are the tables of the first format
-pub adding_none : (before : Option Tables) (t : Tables) (s : State) → t.format ≡ One → IsWriting before (Some t) s → IsMaking before 25 s.now.trees (schema_in One) s
+pub adding_none : (before : Option Tables) (t : Tables) (s : State) → t.format ≡ One → IsWriting before (Some t) s → IsMaking before 22 s.now.trees (schema_in One) s
 adding_none before t s first at = record {
   is_open = at.is_open;
   inside = at.inside;
   schema = at.now.schema ∙ ap schema_in first;
   sound = at.now.sound;
-  kept = all_kept (schema_in One).tables 25 s.now.trees (refl, (refl, (refl, (refl, (refl, (refl, (refl, (refl, (refl, (refl, tt))))))))));
+  kept = all_kept (schema_in One).tables 22 s.now.trees (refl, (refl, (refl, (refl, (refl, (refl, (refl, (refl, (refl, (refl, tt))))))))));
   committed = at.committed;
   left = at.left;
 }
 
 -- at last there are those of the second, with the same rows
-pub added_all : (before : Option Tables) (t : Tables) (start s : State) → t.format ≡ One → IsWriting before (Some t) start → IsMaking before 25 start.now.trees (schema_in Two) s → IsWriting before (Some (record t { format = Two })) s
+pub added_all : (before : Option Tables) (t : Tables) (start s : State) → t.format ≡ One → IsWriting before (Some t) start → IsMaking before 22 start.now.trees (schema_in Two) s → IsWriting before (Some (record t { format = Two })) s
 added_all before t start s first began at = record {
   is_open = at.is_open;
   inside = at.inside;

@@ -5,6 +5,8 @@ mod Plain
 mod Giving
 pub mod RowByRow
 pub mod Tallying
+pub mod LinkedTallying
 mod Creating
 pub mod Worked
 pub mod BoundRows
+pub mod Picking

@@ -107,7 +107,7 @@ shown_there format table trees rows there same = rw there at same
 -- a text that means the stored rows that pass a test, of a table
 module _ {K V : Type 0} (layout : Layout K V) (name : Table) (named : table_of name ≡ layout.table) (stands : Row → Bool) (keep : V → Bool) (text : List ℕ) (params : Row)
     (means : (format : Format) → Means (is_there name format) (ReadsStored (schema_in format) layout params stands keep text) (understood (schema_in format) text)) (old new : State) (stored : Stored) (is : IsStored stored old.now) where
-  answer_stored : (answer : List Row) → Shown text params old new answer → IsPermutation (filter stands (stored.rows name)) answer
+  pub answer_stored : (answer : List Row) → Shown text params old new answer → IsPermutation (filter stands (stored.rows name)) answer
   answer_stored answer shown = means_or _ (is_there name stored.format) (means stored.format)
       (λ there it.
       let rows : IsPermutation (rows_in layout.table old.now.trees) (stored.rows name) = subst (λ t. IsPermutation (rows_in t old.now.trees) (stored.rows name)) named (shown_there stored.format name old.now.trees (stored.rows name) there (is.rows name)) in

@@ -4,5 +4,7 @@ pub mod Present
 pub mod Asked
 pub mod Page
 pub mod Tally
+pub mod LinkedTally
 pub mod Facts
 pub mod Batches
+pub mod Picked

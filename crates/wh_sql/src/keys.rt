@@ -56,21 +56,6 @@ pub(crate) fn dim_and_number(
     Ok(values)
 }
 
-/// A number and two days.
-pub(crate) fn number_and_days(
-    alloc: Global,
-    number: u64,
-    from: Day,
-    to: Day,
-) -> Result<Vec<ValueRef<'static>>, Cause>
-    ensures ok { IfOk result (λ values. bound values.items ≡ Int (pos number) ∷ Int (pos from) ∷ Int (pos to) ∷ []) }
-    ensures err { IfErr result (λ cause. cause ≢ Memory → (cause ≡ Size) × (is_number number ≡ false)) }
-{
-    let number = bound::number(number)?;
-    let values = Vec::from_array(alloc, [number, bound::day(from), bound::day(to)])?;
-    Ok(values)
-}
-
 /// A dimension and a text.
 pub(crate) fn dim_and_text<'a>(
     alloc: Global,

@@ -1,12 +1,11 @@
 //! The questions that are asked of the tables.
 
 use crate::dimension::Dimension;
-use crate::facts::Facts;
-use crate::keys::{dim_and_number, dim_and_text, number_and_days, number_key, text_key};
+use crate::keys::{dim_and_number, dim_and_text, number_key, text_key};
 use crate::question::Question;
 use sqlite::types::ValueRef;
 use std::alloc::Global;
-use wh_day::{Day, Value, Values};
+use wh_day::{Value, Values};
 use wh_policy::Dim;
 use wh_rows::{Cause, bound, tables};
 
@@ -210,51 +209,6 @@ impl<'q> Question<tables::Member> for MemberOf<'q> {
     ghost reads = { λ format q. of_natural format q.dim q.natural.now };
 
     ghost reads_stored = { λ format q. of_natural_stored format q.dim q.natural.now };
-}
-
-/// The facts of one member of a dimension from one day to another, these two included, in the order of their keys.
-#[derive(Clone, Copy, Debug, PartialEq, Eq)]
-pub struct SalesBetween {
-    /// The dimension of the member.
-    pub dim: Dim,
-    /// The durable key of the member.
-    pub durable: u64,
-    /// The first day of sale.
-    pub from: Day,
-    /// The last day of sale.
-    pub to: Day,
-}
-
-impl<F: Facts> Question<F> for SalesBetween {
-    ghost use Rattle.std.specs.Prelude.{◌≡◌, true, [], ◌∷◌, pos, None, ◌&&◌};
-    ghost use Rattle.std.specs.Ordering.{eq_by_cmp, is_ge, is_le, nat_cmp};
-    ghost use Rattle.sqlite_value.specs.declared.value.Value.TheVariants.{Int};
-    ghost use Rattle.wh_rows.specs.Types.{is_number};
-    ghost use Rattle.wh_rows.specs.Questions.{durable_of, is_sale_between};
-
-    ghost keep = { λ q r. eq_by_cmp nat_cmp q.durable (durable_of q.dim (F.fact r)) && (is_ge (nat_cmp (F.fact r).day q.from) && is_le (nat_cmp (F.fact r).day q.to)) };
-
-    ghost front = { None };
-
-    ghost bind = { λ q. Int (pos q.durable) ∷ Int (pos q.from) ∷ Int (pos q.to) ∷ [] };
-
-    ghost can_be_asked = { λ q. is_number q.durable ≡ true };
-
-    ghost means = { λ q. F.sales_means q.dim };
-
-    fn text(&self) -> &'static str {
-        F::sales_text(self.dim)
-    }
-
-    fn values<'a>(&'a self, alloc: Global) -> Result<Vec<ValueRef<'a>>, Cause> {
-        number_and_days(alloc, self.durable, self.from, self.to)
-    }
-
-    ghost stands = { λ q. is_sale_between q.dim q.durable q.from q.to };
-
-    ghost reads = { λ format q. F.finds_sales format q.dim q.durable q.from q.to };
-
-    ghost reads_stored = { λ format q. F.finds_sales_stored format q.dim q.durable q.from q.to };
 }
 
 /// The profile of a combination of values.

@@ -23,7 +23,7 @@ use wh_day::ParseError;
 use wh_rows::{Cause, Table};
 
 /// The rows that were read, and one more after them. `None`: one of these is out of its type.
-fn read_on<T: KeyedTable>(
+pub(crate) fn read_on<T: KeyedTable>(
     alloc: Global,
     read: Option<Vec<T::Row>>,
     row: &Row,

@@ -22,7 +22,7 @@ use sqlite_schema::schema::{self, Schema};
 use wh_rows::{Cause, Table};
 
 /// The texts that make the warehouse: its tables, then its indexes.
-const TEXTS: [&str; 19] = [
+const TEXTS: [&str; 16] = [
     "CREATE TABLE meta (name TEXT NOT NULL, value INTEGER NOT NULL, PRIMARY KEY (name))",
     "CREATE TABLE command (number INTEGER PRIMARY KEY NOT NULL, id TEXT NOT NULL, kind TEXT NOT NULL, bytes BLOB NOT NULL, records INTEGER NOT NULL, placeholders INTEGER NOT NULL, UNIQUE (id))",
     "CREATE TABLE member (dim INTEGER NOT NULL, durable INTEGER NOT NULL, natural TEXT NOT NULL, opening INTEGER NOT NULL, PRIMARY KEY (dim, durable), UNIQUE (dim, natural))",
@@ -38,19 +38,13 @@ const TEXTS: [&str; 19] = [
     "CREATE INDEX product_by_durable ON product (durable)",
     "CREATE INDEX store_by_durable ON store (durable)",
     "CREATE INDEX customer_by_durable ON customer (durable)",
-    "CREATE INDEX fact_by_store ON fact (store_durable, day)",
-    "CREATE INDEX fact_by_product ON fact (product_durable, day)",
-    "CREATE INDEX fact_by_customer ON fact (customer_durable, day)",
     "CREATE INDEX profile_by_values ON profile (v1, v2, v3, v4, v5, v6)",
 ];
 
 /// The texts that make the second format, where the first stands.
-const SECOND: [&str; 5] = [
+const SECOND: [&str; 2] = [
     "CREATE TABLE fact2 (ticket TEXT NOT NULL, line INTEGER NOT NULL, day INTEGER NOT NULL, store_key INTEGER NOT NULL, product_key INTEGER NOT NULL, customer_key INTEGER NOT NULL, store_durable INTEGER NOT NULL, product_durable INTEGER NOT NULL, customer_durable INTEGER NOT NULL, profile INTEGER NOT NULL, quantity INTEGER NOT NULL, amount INTEGER NOT NULL, cost INTEGER NOT NULL, discount INTEGER NOT NULL, PRIMARY KEY (ticket, line))",
     "CREATE TABLE void (ticket TEXT NOT NULL, line INTEGER NOT NULL, command INTEGER NOT NULL, PRIMARY KEY (ticket, line))",
-    "CREATE INDEX fact2_by_store ON fact2 (store_durable, day)",
-    "CREATE INDEX fact2_by_product ON fact2 (product_durable, day)",
-    "CREATE INDEX fact2_by_customer ON fact2 (customer_durable, day)",
 ];
 
 /// How many of the tables the first format has; the second adds the others.

@@ -3,9 +3,10 @@
 //! Over tables of the first format the store refuses statements on `fact2`, which isn't there. Over tables of the second a call for the first goes to
 //! `fact`, which an upgrade leaves empty.
 
-ghost use Rattle.std.specs.Prelude.{◌≡◌, ◌≢◌, ◌⊎◌, ◌+◌, ◌<◌, ◌≤◌, [], ◌∷◌, pos, map, filter, length, true, false, if◌then◌else◌, Option, Some, IsTrue, IfOk, IfErr, OnOk, ⊤};
+ghost use Rattle.std.specs.Prelude.{◌≡◌, ◌≢◌, ◌⊎◌, ◌+◌, ◌<◌, ◌≤◌, [], ◌∷◌, pos, map, filter, length, false, if◌then◌else◌, Option, Some, IsTrue, IfOk, IfErr, OnOk, ⊤};
 ghost use Rattle.std.specs.List.{AllByRecursion};
 ghost use Rattle.std.specs.FinMap.{get, len, values};
+ghost use Rattle.std.specs.List.Sorted.{IsPermutation};
 ghost use Rattle.sqlite.specs.State.{HasCleanDisk};
 ghost use Rattle.sqlite_value.specs.declared.value.Value.TheVariants.{Int};
 ghost use Rattle.wh_rows.specs.declared.cause.Cause.TheVariants.{Memory};
@@ -13,15 +14,15 @@ ghost use Rattle.wh_rows.specs.AtRest.{IsWriting, IsCauseOf};
 ghost use Rattle.wh_rows.specs.Facts.{facts_in, with_facts_in, facts_table, fact_layout};
 ghost use Rattle.wh_rows.specs.Inserting.{rows_at_once, bind_rows, BreaksRule};
 ghost use Rattle.wh_rows.specs.Keys.{bind_line, stands_at_line};
-ghost use Rattle.wh_rows.specs.Questions.{is_sale_between, is_sold_between};
-ghost use Rattle.wh_rows.specs.Raw.{AreRows, IsLastOf};
+ghost use Rattle.wh_rows.specs.Raw.{IsLastOf};
 ghost use Rattle.wh_rows.specs.Rows as row;
+ghost use Rattle.wh_rows.specs.Since.{is_of_members, is_sale_of, is_sold_of};
 ghost use Rattle.wh_rows.specs.Steps.{with_rows};
 ghost use Rattle.wh_rows.specs.Tables.{Tables as TypedTables};
-ghost use Rattle.wh_rows.specs.Types.{is_number};
+ghost use Rattle.wh_sql.specs.Picked.{StandFor, FailsToShowSome};
 ghost use Rattle.wh_sql.specs.Reads.{FailsToShow, FailsToCount};
 ghost use Rattle.wh_store.specs.Edits.{with_edit, statement_of, IsOfTypes, IsValid, Puts};
-ghost use Rattle.wh_store.specs.FactTexts.{fact_texts, sales_asked, inserting};
+ghost use Rattle.wh_store.specs.FactTexts.{fact_texts, since_asked, inserting};
 ghost use Rattle.wh_store.specs.Reads.{state_of, ReadsOnly, SaysAtRest, SaysAsStored, IsOfDamage};
 ghost use Rattle.wh_store.specs.Writes.{WritesOnly, Makes, NotesRefusals};
 
@@ -29,10 +30,11 @@ use crate::tables::Tables;
 use crate::writing::Writing;
 use sqlite::Alter;
 use std::alloc::Global;
+use wh_day::Day;
 use wh_history::{Edit, Fact};
-use wh_policy::Format;
+use wh_policy::{Dim, Format};
 use wh_rows::{Cause, LineKey, tables};
-use wh_sql::{ReadFault, SalesBetween, ask, count, get};
+use wh_sql::{ReadFault, SomeMembers, ask, count, facts_of_members, get};
 
 impl<S: Alter> Tables<S> {
     /// The fact of a line, if it is there. `Damaged`: it is out of its type.
@@ -69,24 +71,30 @@ impl<S: Alter> Tables<S> {
         }
     }
 
-    /// The facts of one member of a dimension from one day to another, both included, in the order of their lines. `Damaged`: one of them is out of
-    /// its type.
-    pub fn facts_between(
+    /// The facts of some members of a dimension on their days, of which none is before `from`, in whatever order they are stored. One pass over all
+    /// facts finds them. `Damaged`: one of them is out of its type.
+    pub fn facts_of_members<M: SomeMembers>(
         &mut self,
         alloc: Global,
         format: Format,
-        question: &SalesBetween,
+        dim: Dim,
+        members: &M,
+        from: Day,
     ) -> Result<Vec<Fact>, ReadFault>
         ensures reads { ReadsOnly (state_of S.Store self.old) (state_of S.Store self.new) result }
-        ensures facts { SaysAtRest (state_of S.Store self.old) (state_of S.Store self.new) (λ t. IfOk result (λ facts. facts.items ≡ filter (is_sold_between question.now.dim question.now.durable question.now.from question.now.to) (values (facts_in format t)))) }
+        ensures facts { SaysAtRest (state_of S.Store self.old) (state_of S.Store self.new) (λ t. IfOk result (λ facts. IsPermutation (filter (is_sold_of (M.among members.now) dim from) (values (facts_in format t))) facts.items)) }
         // No other row keeps these from being read.
-        ensures stored { SaysAsStored (state_of S.Store self.old) (state_of S.Store self.new) (λ stored. IfOk result (λ facts. AreRows (fact_layout format) (filter (is_sale_between question.now.dim question.now.durable question.now.from question.now.to) (stored.rows (facts_table format))) facts.items)) }
-        ensures damaged { SaysAsStored (state_of S.Store self.old) (state_of S.Store self.new) (λ stored. IfErr result (IsOfDamage (fact_layout format) (facts_table format) (filter (is_sale_between question.now.dim question.now.durable question.now.from question.now.to) (stored.rows (facts_table format))))) }
-        ensures refused { HasCleanDisk (state_of S.Store self.new) → is_number question.now.durable ≡ true → IfErr result (FailsToShow (fact_layout format) (facts_table format) (sales_asked format question.now.dim) (Int (pos question.now.durable) ∷ Int (pos question.now.from) ∷ Int (pos question.now.to) ∷ []) (state_of S.Store self.old) (state_of S.Store self.new)) }
+        ensures stored { SaysAsStored (state_of S.Store self.old) (state_of S.Store self.new) (λ stored. IfOk result (λ facts. StandFor (fact_layout format) (filter (is_sale_of (M.among members.now) dim from) (stored.rows (facts_table format))) facts.items)) }
+        ensures damaged { SaysAsStored (state_of S.Store self.old) (state_of S.Store self.new) (λ stored. IfErr result (IsOfDamage (fact_layout format) (facts_table format) (filter (is_sale_of (M.among members.now) dim from) (stored.rows (facts_table format))))) }
+        ensures refused { HasCleanDisk (state_of S.Store self.new) → IfErr result (FailsToShowSome (fact_layout format) (facts_table format) (is_of_members (M.among members.now) dim) (since_asked format) (Int (pos from) ∷ []) (state_of S.Store self.old) (state_of S.Store self.new)) }
     {
         match format {
-            Format::One => ask::<tables::Fact, SalesBetween, S>(alloc, &mut self.conn, question),
-            Format::Two => ask::<tables::Fact2, SalesBetween, S>(alloc, &mut self.conn, question),
+            Format::One => {
+                facts_of_members::<tables::Fact, M, S>(alloc, &mut self.conn, dim, members, from)
+            }
+            Format::Two => {
+                facts_of_members::<tables::Fact2, M, S>(alloc, &mut self.conn, dim, members, from)
+            }
         }
     }
 }

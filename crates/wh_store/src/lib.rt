@@ -3,6 +3,7 @@
 
 mod facts;
 mod fault;
+mod links;
 mod meta;
 mod parts;
 mod reopen;
@@ -21,7 +22,7 @@ pub use wh_policy::Format;
 pub use wh_rows::{Cause, Limits, Table};
 pub use wh_sql::{
     BatchedTable, CommandOf, Dimension, FactAggregate, Facts, Greatest, GreatestOf, KeyedTable,
-    LastPolicy, MemberOf, PagedTable, ProfileOf, Question, ROWS_AT_ONCE, ReadFault, RecordsOf,
-    RowsOf, SalesBetween,
+    LastPolicy, LinkAggregate, MemberOf, PagedTable, ProfileOf, Question, ROWS_AT_ONCE, ReadFault,
+    RecordsOf, RowsOf, SomeMembers,
 };
 pub use writing::Writing;

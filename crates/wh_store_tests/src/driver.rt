@@ -36,9 +36,10 @@
 //!
 //! On both, questions:
 //! - `all TABLE`, `get TABLE KEY`, `count TABLE`, `length TABLE`, the number of the rows that are read, and `nth TABLE PLACE`, from 0.
-//! - `rows DIMENSION DURABLE`, `records DIMENSION DURABLE`, `sales DIMENSION DURABLE FROM TO` (`sales2` of the second format), `command ID`,
-//!   `member DIMENSION NATURAL`, `profile TEXT,TEXT,..`, `greatest profile`, `greatest member DIMENSION`, `anchor DIMENSION`: the types of
-//!   `wh_sql` that are called so, and `greatest_anchor`.
+//! - `rows DIMENSION DURABLE`, `records DIMENSION DURABLE`, `command ID`, `member DIMENSION NATURAL`, `profile TEXT,TEXT,..`,
+//!   `greatest profile`, `greatest member DIMENSION`, `anchor DIMENSION`: the types of `wh_sql` that are called so, and `greatest_anchor`.
+//! - `sales DIMENSION DURABLE FROM TO, DURABLE FROM TO, ..` (`sales2` of the second format): the facts of some members, of each between two days,
+//!   out of all from the first of these days on.
 //! - `table TABLE` and `dim DIMENSION`, what a table says that it is; `read ROW`, the row as it is read from these columns.
 //!
 //! On files, where each step is a run of its own:

@@ -1,7 +1,7 @@
 //! Steps on the facts of a format, which is named by its number.
 
-use crate::questions::sales_between;
 use crate::rows::{push_number_line, push_rows, row_of};
+use crate::sales::sales;
 use crate::told::line_key;
 use crate::trouble::Trouble;
 use sqlite::Alter;
@@ -19,14 +19,14 @@ fn format_of(word: &str) -> Result<Format, Trouble> {
     }
 }
 
-fn push_facts(out: &mut String, format: Format, facts: &[Fact]) -> Result<(), Trouble> {
+pub fn push_facts(out: &mut String, format: Format, facts: &[Fact]) -> Result<(), Trouble> {
     match format {
         Format::One => push_rows::<tables::Fact>(out, facts),
         Format::Two => push_rows::<tables::Fact2>(out, facts),
     }
 }
 
-/// `FORMAT count`, `FORMAT line TICKET LINE` or `FORMAT between DIMENSION DURABLE FROM TO`.
+/// `FORMAT count`, `FORMAT line TICKET LINE` or `FORMAT of DIMENSION DURABLE FROM TO, DURABLE FROM TO, ..`.
 pub fn read<S: Alter>(
     alloc: Global,
     tables: &mut Tables<S>,
@@ -42,10 +42,7 @@ pub fn read<S: Alter>(
             Some(fact) => push_facts(out, format, &[fact]),
             None => Ok(()),
         },
-        "between" => {
-            let facts = tables.facts_between(alloc, format, &sales_between(words)?)?;
-            push_facts(out, format, &facts)
-        }
+        "of" => sales(alloc, tables, format, words, out),
         _ => Err(Trouble::Unknown),
     }
 }

@@ -2,10 +2,11 @@
 
 use sqlite::{Alter, Connection};
 use std::alloc::Global;
-use wh_history::FactKeys;
+use wh_day::Day;
+use wh_history::{Fact, FactKeys};
 use wh_policy::Dim;
-use wh_rows::{Cause, LineKey};
-use wh_sql::{KeyedTable, Question, ReadFault};
+use wh_rows::{Cause, LineKey, tables};
+use wh_sql::{KeyedTable, Question, ReadFault, SomeMembers};
 use wh_store::{Format, Tables, Writing};
 
 /// The tables of a warehouse, and their format.
@@ -34,6 +35,15 @@ pub trait Reads {
     ) -> Result<Vec<T::Row>, ReadFault>;
 
     fn anchor(&mut self, alloc: Global, dim: Dim) -> Result<u64, ReadFault>;
+
+    fn sales<M: SomeMembers>(
+        &mut self,
+        alloc: Global,
+        format: Format,
+        dim: Dim,
+        members: &M,
+        from: Day,
+    ) -> Result<Vec<Fact>, ReadFault>;
 }
 
 impl<S: Alter> Reads for Connection<S> {
@@ -64,6 +74,24 @@ impl<S: Alter> Reads for Connection<S> {
     fn anchor(&mut self, alloc: Global, dim: Dim) -> Result<u64, ReadFault> {
         wh_sql::greatest_anchor(alloc, self, dim)
     }
+
+    fn sales<M: SomeMembers>(
+        &mut self,
+        alloc: Global,
+        format: Format,
+        dim: Dim,
+        members: &M,
+        from: Day,
+    ) -> Result<Vec<Fact>, ReadFault> {
+        match format {
+            Format::One => {
+                wh_sql::facts_of_members::<tables::Fact, M, S>(alloc, self, dim, members, from)
+            }
+            Format::Two => {
+                wh_sql::facts_of_members::<tables::Fact2, M, S>(alloc, self, dim, members, from)
+            }
+        }
+    }
 }
 
 impl<S: Alter> Reads for Tables<S> {
@@ -93,6 +121,17 @@ impl<S: Alter> Reads for Tables<S> {
 
     fn anchor(&mut self, alloc: Global, dim: Dim) -> Result<u64, ReadFault> {
         self.greatest_anchor(alloc, dim)
+    }
+
+    fn sales<M: SomeMembers>(
+        &mut self,
+        alloc: Global,
+        format: Format,
+        dim: Dim,
+        members: &M,
+        from: Day,
+    ) -> Result<Vec<Fact>, ReadFault> {
+        self.facts_of_members(alloc, format, dim, members, from)
     }
 }
 

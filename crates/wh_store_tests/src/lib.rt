@@ -27,6 +27,8 @@ mod questions;
 #[cfg(test)]
 mod rows;
 #[cfg(test)]
+mod sales;
+#[cfg(test)]
 mod scans;
 #[cfg(test)]
 mod scenarios;

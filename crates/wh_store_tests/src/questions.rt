@@ -2,19 +2,20 @@
 
 use crate::held::Reads;
 use crate::rows::{on_table, push_number_line, push_rows, table_of};
+use crate::sales::sales;
 use crate::told::Told;
 use crate::trouble::Trouble;
-use crate::words::{Step, day, dim, number, push_answer};
+use crate::words::{Step, dim, number, push_answer};
 use std::alloc::{AllocError, Global};
 use wh_day::{Value, Values};
 use wh_policy::Dim;
 use wh_rows::Table;
-use wh_rows::tables::{Change, Command, Customer, Fact, Fact2, Member, Product, Profile, Store};
+use wh_rows::tables::{Change, Command, Customer, Member, Product, Profile, Store};
 use wh_scenarios::parted;
 use wh_sql::{
-    CommandOf, Dimension, Facts, Greatest, GreatestOf, MemberOf, ProfileOf, Question, RecordsOf,
-    RowsOf, SalesBetween,
+    CommandOf, Dimension, Greatest, GreatestOf, MemberOf, ProfileOf, Question, RecordsOf, RowsOf,
 };
+use wh_store::Format;
 
 /// A step that only reads.
 pub fn answer<H: Reads>(
@@ -47,8 +48,8 @@ fn answer_more<H: Reads>(
         "member" => member(alloc, held, step.rest, out),
         "profile" => profile(alloc, held, step.rest, out),
         "records" => records(alloc, held, step.rest, out),
-        "sales" => sales::<Fact, H>(alloc, held, step.rest, out),
-        "sales2" => sales::<Fact2, H>(alloc, held, step.rest, out),
+        "sales" => sales(alloc, held, Format::One, step.rest, out),
+        "sales2" => sales(alloc, held, Format::Two, step.rest, out),
         _ => Err(Trouble::Unknown),
     }
 }
@@ -191,27 +192,4 @@ fn records<H: Reads>(
         durable: number(durable)?,
     };
     told::<Change, RecordsOf, H>(alloc, held, &question, out)
-}
-
-/// `DIMENSION DURABLE FROM TO`: the facts of a member from one day to another.
-fn sales<T: Told + Facts, H: Reads>(
-    alloc: Global,
-    held: &mut H,
-    words: &str,
-    out: &mut String,
-) -> Result<(), Trouble> {
-    told::<T, SalesBetween, H>(alloc, held, &sales_between(words)?, out)
-}
-
-/// The question for the sales that `DIMENSION DURABLE FROM TO` says.
-pub fn sales_between(words: &str) -> Result<SalesBetween, Trouble> {
-    let (name, rest) = parted(words, ' ');
-    let (durable, days) = parted(rest, ' ');
-    let (from, to) = parted(days, ' ');
-    Ok(SalesBetween {
-        dim: dim(name)?,
-        durable: number(durable)?,
-        from: day(from)?,
-        to: day(to)?,
-    })
 }

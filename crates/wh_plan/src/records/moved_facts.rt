@@ -1,17 +1,20 @@
 //! The stored facts that a batch of dimension records moves.
 
-ghost use Rattle.std.specs.Prelude.{◌≡◌, ◌++◌, ◌∷◌, [], flat_map, map, IfOk};
+ghost use Rattle.std.specs.Prelude.{◌≡◌, ℕ, ◌==◌, nat_lt, ◌&&◌, if◌then◌else◌, ◌++◌, ◌∷◌, [], Some, filter_map, flat_map, map, option_map, IfOk, OnOk};
 ghost use Rattle.std.specs.List.{AllByRecursion};
+ghost use Rattle.std.specs.List.Sorted.{IsPermutation};
 ghost use Rattle.wh_history.specs.Accepted.{Accepted, Describes, format_of, member_of, profiles_of};
+ghost use Rattle.wh_history.specs.Facts.{rekeyed_fact};
 ghost use Rattle.wh_history.specs.Known.{number_in, KnowsEnough};
-ghost use Rattle.wh_history.specs.MovingDays.{moves_since, moves_until};
-ghost use Rattle.wh_history.specs.Shapes.{rendered_in, shape_of, shown};
+ghost use Rattle.wh_history.specs.Shapes.{shape_of, shown};
 ghost use Rattle.wh_history.specs.Touched.{touched_by};
 ghost use Rattle.wh_model.specs.Defined.{fact_at};
 ghost use Rattle.wh_rows.specs.Facts.{facts_in};
+ghost use Rattle.wh_rows.specs.Questions.{durable_of};
 ghost use Rattle.wh_plan.specs.BatchRows.{AreFacts, AreRekeyed};
 ghost use Rattle.wh_plan.specs.MovedFacts.{moved_of_touched, pair_of};
 ghost use Rattle.wh_plan.specs.NewRows.{Records, naturals_told};
+ghost use Rattle.wh_plan.specs.OnePass.{AreApart, first_moving, moved_fact, mover, moving_of, on_day, owner_in, seen, with_first};
 ghost use Rattle.wh_plan.specs.RecordPlan.{MovesFacts};
 ghost use Rattle.wh_store.specs.Reads.{ReadsOnly, state_of};
 ghost use Rattle.wh_plan.specs.Reads.{Finds, Tells};
@@ -20,48 +23,181 @@ ghost use Rattle.wh_model.specs.Sound.{AreTypes, IsAccepted};
 use crate::records::touched::{TouchedMember, touched_pairs};
 use sqlite::Alter;
 use std::alloc::{AllocError, Global};
+use std::collections::BTreeMap;
+use wh_day::Day;
 use wh_history::{DimensionShape, Fact, Member, RenderedRows, moves_since};
-use wh_policy::Format;
-use wh_store::{ReadFault, SalesBetween, Tables};
+use wh_policy::{Dim, Format};
+use wh_store::{ReadFault, SomeMembers, Tables};
 
-/// The question for the facts that can move, of a member as it is stored and as it is after a batch.
-fn facts_to_ask(
+/// A stored member as it is after a batch, and the keys of the first and the last day of which the batch can move its facts.
+#[derive(Drop)]
+struct MovingMember<'a> {
+    rows: RenderedRows<'a>,
+    since: u64,
+    until: u64,
+}
+
+/// The stored members that a batch touches, by their durable keys.
+#[derive(Drop)]
+struct MovingMembers<'a> {
+    by_durable: BTreeMap<u64, MovingMember<'a>>,
+}
+
+impl SomeMembers for MovingMembers<'_> {
+    ghost use Rattle.wh_plan.specs.OnePass.{mover, moves_on};
+
+    ghost among = { λ m. moves_on (mover m) };
+
+    fn has(&self, durable: u64, day: u64) -> bool {
+        self.mover(durable, day).is_some()
+    }
+}
+
+impl<'a> MovingMembers<'a> {
+    /// The member of a durable key, if the batch can move its facts of the day.
+    fn mover(&self, durable: u64, day: u64) -> Option<&RenderedRows<'a>>
+        ensures { option_map (λ rows. shown rows.now) result ≡ on_day (mover self.now durable) day }
+    {
+        match self.by_durable.get(&durable) {
+            Some(member) if member.since <= day && day <= member.until => Some(&member.rows),
+            _ => None,
+        }
+    }
+
+    /// Adds a touched member, if it is stored, in the place of another one of its durable key.
+    fn add(
+        &mut self,
+        alloc: Global,
+        dimension: &DimensionShape,
+        touched: &TouchedMember<'a>,
+    ) -> Result<(), AllocError>
+        ensures { OnOk result ((durable : ℕ) → mover self.new durable ≡ (if nat_lt 0 touched.now.stored.now.durable && (touched.now.after.now.durable == durable) then Some (moving_of (shape_of dimension.now) (pair_of touched.now)) else mover self.old durable)) }
+    {
+        if touched.stored.durable == 0 {
+            return Ok(());
+        }
+        let member = moving_member(alloc, dimension, touched)?;
+        self.by_durable.insert(touched.after.durable, member)?;
+        Ok(())
+    }
+}
+
+/// A touched member with its days.
+fn moving_member<'a>(
     alloc: Global,
     dimension: &DimensionShape,
-    stored: &Member,
-    after: &RenderedRows,
-) -> Result<SalesBetween, AllocError>
-    ensures { IfOk result (λ q. q ≡ record { dim = dimension.now.dim; durable = after.now.member.now.durable; from = moves_since stored.now.changes after.now.member.now.changes; to = moves_until (rendered_in (shape_of dimension.now) stored.now) (shown after.now) }) }
+    touched: &TouchedMember<'a>,
+) -> Result<MovingMember<'a>, AllocError>
+    ensures { IfOk result (λ m. seen m ≡ moving_of (shape_of dimension.now) (pair_of touched.now)) }
 {
-    Ok(SalesBetween {
-        dim: dimension.dim,
-        durable: after.member.durable,
-        from: moves_since(stored.changes.as_slice(), after.member.changes.as_slice()),
-        to: dimension.moves_until(alloc, stored, after)?,
+    let rows = dimension.rendered(alloc, touched.after)?;
+    let until = dimension.moves_until(alloc, touched.stored, &rows)?;
+    let since = moves_since(
+        touched.stored.changes.as_slice(),
+        touched.after.changes.as_slice(),
+    );
+    Ok(MovingMember {
+        rows,
+        since: u64::from(since.key()),
+        until: u64::from(until.key()),
     })
 }
 
-/// The facts of a touched member whose keys change, with their new keys. One that isn't stored has none.
-fn moved_of_touched<S: Alter>(
-    tables: &mut Tables<S>,
+/// The touched members that are stored. Of two with one durable key the first counts.
+fn moving_members<'a>(
     alloc: Global,
-    format: Format,
     dimension: &DimensionShape,
-    touched: &TouchedMember,
-) -> Result<Vec<Fact>, ReadFault>
-    ensures reads { ReadsOnly (state_of S.Store tables.old) (state_of S.Store tables.new) result }
-    ensures moved { Tells (state_of S.Store tables.old) (state_of S.Store tables.new) result (λ t facts. facts.items ≡ moved_of_touched (shape_of dimension.now) (facts_in format t) (pair_of touched.now)) }
+    touched: &[TouchedMember<'a>],
+) -> Result<MovingMembers<'a>, AllocError>
+    ensures { IfOk result (λ m. (durable : ℕ) → mover m durable ≡ option_map (moving_of (shape_of dimension.now)) (owner_in (map pair_of touched.now) durable)) }
 {
-    if touched.stored.durable == 0 {
-        return Ok(Vec::new(alloc));
+    let mut members = MovingMembers {
+        by_durable: BTreeMap::new(alloc),
+    };
+    let mut left = touched.len();
+    while left > 0 {
+        left -= 1;
+        members.add(alloc, dimension, &touched[left])?;
     }
-    let after = dimension.rendered(alloc, touched.after)?;
-    let question = facts_to_ask(alloc, dimension, touched.stored, &after)?;
-    let facts = tables.facts_between(alloc, format, &question)?;
-    Ok(dimension.rekeyed_facts(alloc, &after, &facts)?)
+    Ok(members)
 }
 
-/// The facts of touched members whose keys change, with their new keys, one member after the other.
+/// The first day of which a fact can move, with one more touched member.
+fn with_first(first: Option<Day>, touched: &TouchedMember) -> Option<Day>
+    ensures { result ≡ with_first (pair_of touched.now) first }
+{
+    if touched.stored.durable == 0 {
+        return first;
+    }
+    let since = moves_since(
+        touched.stored.changes.as_slice(),
+        touched.after.changes.as_slice(),
+    );
+    match first {
+        Some(day) if day < since => Some(day),
+        _ => Some(since),
+    }
+}
+
+/// The first day of which a fact can move. `None`: no touched member is stored.
+fn first_moving(touched: &[TouchedMember]) -> Option<Day>
+    ensures { result ≡ first_moving (map pair_of touched.now) }
+{
+    let mut first = None;
+    let mut left = touched.len();
+    while left > 0 {
+        left -= 1;
+        first = with_first(first, &touched[left]);
+    }
+    first
+}
+
+/// The durable key of a fact's member of the dimension.
+fn durable_of(dim: Dim, fact: &Fact) -> u64
+    ensures { result ≡ durable_of dim fact.now }
+{
+    match dim {
+        Dim::Product => fact.product_durable,
+        Dim::Store => fact.store_durable,
+        Dim::Customer => fact.customer_durable,
+    }
+}
+
+/// A fact with its new keys, if the batch moves it.
+fn moved_fact(
+    alloc: Global,
+    dimension: &DimensionShape,
+    members: &MovingMembers,
+    fact: &Fact,
+) -> Result<Option<Fact>, AllocError>
+    ensures { IfOk result (λ moved. moved ≡ moved_fact (shape_of dimension.now) (mover members.now) fact.now) }
+{
+    let durable = durable_of(dimension.dim, fact);
+    match members.mover(durable, u64::from(fact.day.key())) {
+        Some(rows) => dimension.rekeyed_fact(alloc, rows, fact),
+        None => Ok(None),
+    }
+}
+
+/// Of some facts those that the batch moves, with their new keys, in their order.
+fn moved_facts(
+    alloc: Global,
+    dimension: &DimensionShape,
+    members: &MovingMembers,
+    facts: &[Fact],
+) -> Result<Vec<Fact>, AllocError>
+    ensures { IfOk result (λ moved. moved.items ≡ filter_map (moved_fact (shape_of dimension.now) (mover members.now)) facts.now) }
+{
+    let mut moved = Vec::new(alloc);
+    for fact in facts {
+        if let Some(fact) = moved_fact(alloc, dimension, members, fact)? {
+            moved.push(fact)?;
+        }
+    }
+    Ok(moved)
+}
+
+/// The facts of touched members whose keys change, with their new keys, in whatever order they are stored. Members that aren't stored have none.
 fn moved_of_members<S: Alter>(
     tables: &mut Tables<S>,
     alloc: Global,
@@ -70,14 +206,14 @@ fn moved_of_members<S: Alter>(
     touched: &[TouchedMember],
 ) -> Result<Vec<Fact>, ReadFault>
     ensures reads { ReadsOnly (state_of S.Store tables.old) (state_of S.Store tables.new) result }
-    ensures moved { Tells (state_of S.Store tables.old) (state_of S.Store tables.new) result (λ t facts. facts.items ≡ flat_map (moved_of_touched (shape_of dimension.now) (facts_in format t)) (map pair_of touched.now)) }
+    ensures moved { Tells (state_of S.Store tables.old) (state_of S.Store tables.new) result (λ t facts. AreApart (map pair_of touched.now) → IsPermutation (flat_map (moved_of_touched (shape_of dimension.now) (facts_in format t)) (map pair_of touched.now)) facts.items) }
 {
-    let mut found = Vec::new(alloc);
-    for member in touched {
-        let mut facts = moved_of_touched(tables, alloc, format, dimension, member)?;
-        found.append(&mut facts)?;
-    }
-    Ok(found)
+    let Some(from) = first_moving(touched) else {
+        return Ok(Vec::new(alloc));
+    };
+    let members = moving_members(alloc, dimension, touched)?;
+    let found = tables.facts_of_members(alloc, format, dimension.dim, &members, from)?;
+    Ok(moved_facts(alloc, dimension, &members, &found)?)
 }
 
 /// The facts of the touched members whose keys change with a batch of records, with their new keys.

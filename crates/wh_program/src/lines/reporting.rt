@@ -2,15 +2,18 @@
 
 ghost use Rattle.std.specs.Prelude.{◌≡◌, ◌++◌, codes, string_bytes, IfOk};
 ghost use Rattle.std.specs.Fmt.{decimal};
-ghost use Rattle.wh_report.specs.Words.{mode_word};
-ghost use Rattle.wh_program.specs.Answer.{failed, refused, line, write_line, no_mode_line};
+ghost use Rattle.wh_batch.specs.Mode.{mode_word};
+ghost use Rattle.wh_program.specs.Answer.{failed, refused, write_line};
+ghost use Rattle.wh_words.specs.WrongWord.{line, no_mode_line};
 ghost use Rattle.wh_program.specs.Reply.{no_reading_line, request_line, report_fault_answer, report_answer};
 
 use crate::lines::answer::{Answer, Status};
-use crate::lines::{MODES, WRITE_LINE, damaged_answer, fault_answer, fixed_line, wrong_word_line};
+use crate::lines::{WRITE_LINE, damaged_answer, fault_answer, fixed_line};
 use std::alloc::{AllocError, Global};
+use wh_batch::Mode;
 use wh_policy::AttributeType;
-use wh_report::{Mode, ReportFault, RequestFault};
+use wh_report::{ReportFault, RequestFault};
+use wh_words::{MODES, wrong_word_line};
 
 /// The line where an attribute of the type of this number has nothing to show in the mode of this word.
 fn no_reading_text(alloc: Global, number: u64, word: &str) -> Result<String, AllocError>

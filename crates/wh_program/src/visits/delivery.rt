@@ -1,6 +1,6 @@
 //! Deliveries: the commands that a manifest lists, sent in order. The line of each reply is printed as it comes.
 
-ghost use Rattle.std.specs.Prelude.{◌≤◌, ℕ, Option, Result, IfOk, IfErr, vec_capacity};
+ghost use Rattle.std.specs.Prelude.{◌≡◌, ◌≤◌, ℕ, Option, Result, IfOk, IfErr, vec_capacity, Some};
 ghost use Rattle.sqlite.specs.State.{HasCleanDisk};
 ghost use Rattle.wh_batch.specs.Manifest.{manifest_of};
 ghost use Rattle.wh_engine.specs.Answered.{IsAnswered};
@@ -9,12 +9,13 @@ ghost use Rattle.wh_engine.specs.declared.fault.Fault.{Fault as Faults};
 ghost use Rattle.wh_admission.specs.declared.command.Reply.{Reply as Replies};
 ghost use Rattle.wh_store.specs.Reads.{state_of};
 ghost use Rattle.wh_program.specs.Answer.{status_code};
-ghost use Rattle.wh_program.specs.Delivery.{AreCommandsOf, Delivers, LacksInput, AnswersSent, AnswersListed, AnswersRead, AnswersDelivery};
+ghost use Rattle.wh_program.specs.Delivery.{AreCommandsOf, Delivers, LacksInput, AnswersSent, AnswersListed, AnswersRead, AnswersDelivery, LacksEntry, LacksListed, LacksManifest};
 ghost use Rattle.wh_program.specs.Reply.{sent_answer};
 ghost use Rattle.wh_program.specs.Room.{longest_answer, longest_reply};
 ghost use Rattle.wh_program.specs.Run.{GoesOut, Prints};
 ghost use Rattle.wh_program.specs.Standing.{DatabaseContent, Rests, Standing, Stands};
-ghost use Rattle.wh_program.specs.Warehouse.{Told, Opens, PrintsAnswer, printed};
+ghost use Rattle.wh_program.specs.Warehouse.{Told, Opens, PrintsAnswer, printed, PrintsShut, IsNoFile, IsNoFileOr};
+ghost use Rattle.wh_program.specs.Tasks.{SparesOthers};
 
 use crate::host::{Host, HostError, Visitor, manifest_file_of};
 use crate::lines::answer::Status;
@@ -22,6 +23,7 @@ use crate::lines::{
     MEMORY_LINE, bad_manifest, no_file, opening_answer, push_sent, room_for_delivery, sent_status,
 };
 use crate::output::{print, print_answer};
+use crate::visits::opened::is_of_store;
 use crate::visits::warehouse::command_from_file;
 use sqlite::{Alter, Connection};
 use std::alloc::{AllocError, Global};
@@ -109,16 +111,17 @@ impl Visitor for Delivering {
         alloc: Global,
         connection: Connection<T>,
         out: &mut W,
-    ) -> (Status, Connection<T>) {
+    ) -> (Status, Connection<T>, bool) {
         let Delivering { commands, room } = self;
         match Engine::open(alloc, connection) {
             Ok(mut engine) => {
                 let status = send_each(alloc, &mut engine, &commands, room, out);
-                (status, engine.close())
+                let must_reopen = engine.must_reopen();
+                (status, engine.close(), must_reopen)
             }
             Err((fault, connection)) => {
                 let status = print_answer(out, opening_answer(alloc, fault));
-                (status, connection)
+                (status, connection, is_of_store(&fault))
             }
         }
     }
@@ -157,8 +160,10 @@ fn deliver_commands<H: Host, W: Write>(
     host: &mut H,
     out: &mut W,
 ) -> Status
-    ensures { (content : DatabaseContent) → H.stores host.old file.now (Rests content)
+    ensures answers { (content : DatabaseContent) → H.stores host.old file.now (Rests content)
         → PrintsAnswer (λ cut. AnswersSent (H.refuses host.old) (H.stores host.new file.now) cut content file.now commands.items) (W.contents out.old) (W.contents out.new) (status_code result) }
+    ensures others { SparesOthers (H.stores host.old) (H.stores host.new) (Some file.now) }
+    ensures shut { H.shut host.old file.now → PrintsShut (host.new ≡ host.old) (IsNoFile file.now) (λ told. Prints (W.contents out.old) (W.contents out.new) (status_code result) (printed told)) }
 {
     let Ok(room) = room_for_delivery(alloc, &commands) else {
         return print_answer(out, Err(AllocError));
@@ -178,8 +183,10 @@ fn deliver_entries<H: Host, W: Write>(
     host: &mut H,
     out: &mut W,
 ) -> Status
-    ensures { (content : DatabaseContent) → H.stores host.old file.now (Rests content)
+    ensures answers { (content : DatabaseContent) → H.stores host.old file.now (Rests content)
         → PrintsAnswer (λ cut. AnswersListed (H.holds host.old) (H.refuses host.old) (H.stores host.new file.now) cut content file.now entries.now) (W.contents out.old) (W.contents out.new) (status_code result) }
+    ensures others { SparesOthers (H.stores host.old) (H.stores host.new) (Some file.now) }
+    ensures shut { H.shut host.old file.now → PrintsShut (host.new ≡ host.old) (IsNoFileOr file.now (LacksEntry (H.holds host.old) entries.now)) (λ told. Prints (W.contents out.old) (W.contents out.new) (status_code result) (printed told)) }
 {
     match commands_of(alloc, entries, host) {
         Ok(commands) => deliver_commands(alloc, file, commands, host, out),
@@ -196,8 +203,10 @@ fn deliver_listed<H: Host, W: Write>(
     host: &mut H,
     out: &mut W,
 ) -> Status
-    ensures { (content : DatabaseContent) → H.stores host.old file.now (Rests content)
+    ensures answers { (content : DatabaseContent) → H.stores host.old file.now (Rests content)
         → PrintsAnswer (λ cut. AnswersRead (H.holds host.old) (H.refuses host.old) (H.stores host.new file.now) cut content file.now (manifest_of text.now)) (W.contents out.old) (W.contents out.new) (status_code result) }
+    ensures others { SparesOthers (H.stores host.old) (H.stores host.new) (Some file.now) }
+    ensures shut { H.shut host.old file.now → PrintsShut (host.new ≡ host.old) (IsNoFileOr file.now (LacksListed (H.holds host.old) (manifest_of text.now))) (λ told. Prints (W.contents out.old) (W.contents out.new) (status_code result) (printed told)) }
 {
     match Manifest::read(alloc, text) {
         Ok(listed) => deliver_entries(alloc, file, listed.as_slice(), host, out),
@@ -215,8 +224,10 @@ pub fn deliver<H: Host, W: Write>(
     host: &mut H,
     out: &mut W,
 ) -> Status
-    ensures { (content : DatabaseContent) → H.stores host.old file.now (Rests content)
+    ensures answers { (content : DatabaseContent) → H.stores host.old file.now (Rests content)
         → PrintsAnswer (λ cut. AnswersDelivery (H.holds host.old) (H.refuses host.old) (H.stores host.new file.now) cut content file.now manifest.now) (W.contents out.old) (W.contents out.new) (status_code result) }
+    ensures others { SparesOthers (H.stores host.old) (H.stores host.new) (Some file.now) }
+    ensures shut { H.shut host.old file.now → PrintsShut (host.new ≡ host.old) (IsNoFileOr file.now (LacksManifest (H.holds host.old) manifest.now)) (λ told. Prints (W.contents out.old) (W.contents out.new) (status_code result) (printed told)) }
 {
     match manifest_file_of(alloc, manifest, host) {
         Ok(Some(text)) => deliver_listed(alloc, file, &text, host, out),

@@ -1,6 +1,6 @@
 //! The tables of a warehouse in a file, printed row by row.
 
-ghost use Rattle.std.specs.Prelude.{◌≡◌, List};
+ghost use Rattle.std.specs.Prelude.{◌≡◌, List, Some};
 ghost use Rattle.sqlite.specs.State.{HasCleanDisk};
 ghost use Rattle.wh_history.specs.Accepted.{Accepted};
 ghost use Rattle.wh_history.specs.Tables.{Limits};
@@ -10,13 +10,15 @@ ghost use Rattle.wh_program.specs.Answer.{status_code};
 ghost use Rattle.wh_program.specs.Readings.{SaysStop, IsDumped, AnswersDump};
 ghost use Rattle.wh_program.specs.Run.{Prints};
 ghost use Rattle.wh_program.specs.Standing.{DatabaseContent, IsOfCommands, Standing, Rests, Stands};
-ghost use Rattle.wh_program.specs.Warehouse.{Told, Opens, printed};
+ghost use Rattle.wh_program.specs.Warehouse.{Told, Opens, printed, PrintsShut, IsNoFile};
+ghost use Rattle.wh_program.specs.Tasks.{SparesOthers};
 
 use crate::host::{Host, HostError, Visitor};
 use crate::lines::answer::Status;
 use crate::lines::reporting::report_fault_answer;
 use crate::lines::{no_file, opening_answer};
 use crate::output::{print_answer, write_failed};
+use crate::visits::opened::is_of_store;
 use sqlite::{Alter, Connection};
 use std::alloc::{AllocError, Global};
 use std::io::Write;
@@ -29,7 +31,7 @@ fn print_stop<W: Write>(alloc: Global, fault: ReportFault, out: &mut W) -> Statu
     ensures { SaysStop fault (W.contents out.old) (W.contents out.new) (status_code result) }
 {
     match fault {
-        ReportFault::Write => write_failed(out),
+        ReportFault::Write | ReportFault::Unwritten(_) => write_failed(out),
         fault => print_answer(out, report_fault_answer(alloc, fault)),
     }
 }
@@ -67,15 +69,16 @@ impl Visitor for Dumping {
         alloc: Global,
         connection: Connection<T>,
         out: &mut W,
-    ) -> (Status, Connection<T>) {
+    ) -> (Status, Connection<T>, bool) {
         match Engine::open(alloc, connection) {
             Ok(mut engine) => {
                 let status = print_table(alloc, &mut engine, self.table, out);
-                (status, engine.close())
+                let must_reopen = engine.must_reopen();
+                (status, engine.close(), must_reopen)
             }
             Err((fault, connection)) => {
                 let status = print_answer(out, opening_answer(alloc, fault));
-                (status, connection)
+                (status, connection, is_of_store(&fault))
             }
         }
     }
@@ -89,8 +92,10 @@ pub fn print_dump<H: Host, W: Write>(
     host: &mut H,
     out: &mut W,
 ) -> Status
-    ensures { (content : DatabaseContent) → IsOfCommands content → H.stores host.old file.now (Rests content)
+    ensures answers { (content : DatabaseContent) → IsOfCommands content → H.stores host.old file.now (Rests content)
         → (told : Told) × AnswersDump (H.refuses host.old) (H.stores host.new file.now) content file.now table told × Prints (W.contents out.old) (W.contents out.new) (status_code result) (printed told) }
+    ensures others { SparesOthers (H.stores host.old) (H.stores host.new) (Some file.now) }
+    ensures shut { H.shut host.old file.now → PrintsShut (host.new ≡ host.old) (IsNoFile file.now) (λ told. Prints (W.contents out.old) (W.contents out.new) (status_code result) (printed told)) }
 {
     match host.with_existing(alloc, file, Dumping { table }, out) {
         Ok(status) => status,

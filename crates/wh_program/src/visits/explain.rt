@@ -1,12 +1,14 @@
 //! What an input would be answered, and why; or what a kind takes.
 
+ghost use Rattle.std.specs.Prelude.{◌≡◌, Some};
 ghost use Rattle.wh_engine.specs.Previewed.{IsPreviewed};
 ghost use Rattle.wh_engine.specs.Scanned.{EngineReadsThrough, WasClean, WhenReady};
-ghost use Rattle.wh_program.specs.Explained.{IsExplained, IsDescribed, Explains, AnswersExplanation};
+ghost use Rattle.wh_program.specs.Explained.{IsExplained, IsDescribed, Explains, AnswersExplanation, LacksInputAsked};
 ghost use Rattle.wh_program.specs.Inputs.{as_input};
-ghost use Rattle.wh_program.specs.Request.{optional_text};
+ghost use Rattle.wh_words.specs.Request.{optional_text};
 ghost use Rattle.wh_program.specs.Standing.{DatabaseContent, Rests};
-ghost use Rattle.wh_program.specs.Warehouse.{AnswersWith};
+ghost use Rattle.wh_program.specs.Warehouse.{AnswersWith, AnswersShut, IsNoFileOr, LacksFile};
+ghost use Rattle.wh_program.specs.Tasks.{SparesOthers};
 
 use crate::host::Host;
 use crate::lines::answer::Answer;
@@ -142,8 +144,10 @@ fn explain_input<H: Host>(
     path: &str,
     host: &mut H,
 ) -> Result<Answer, AllocError>
-    ensures { (content : DatabaseContent) → H.stores host.old file.now (Rests content)
+    ensures answers { (content : DatabaseContent) → H.stores host.old file.now (Rests content)
         → AnswersWith (as_input kind (H.holds host.old)) (H.refuses host.old) (H.stores host.new file.now) (Explains kind) content file.now path.now result }
+    ensures others { SparesOthers (H.stores host.old) (H.stores host.new) (Some file.now) }
+    ensures shut { H.shut host.old file.now → AnswersShut (host.new ≡ host.old) (IsNoFileOr file.now (LacksFile (as_input kind (H.holds host.old)) path.now)) result }
 {
     let Some(bytes) = input_of(alloc, kind, path, host)? else {
         return no_file(alloc, path);
@@ -159,8 +163,10 @@ pub fn explain<H: Host>(
     path: Option<&str>,
     host: &mut H,
 ) -> Result<Answer, AllocError>
-    ensures { (content : DatabaseContent) → H.stores host.old file.now (Rests content)
+    ensures answers { (content : DatabaseContent) → H.stores host.old file.now (Rests content)
         → AnswersExplanation (H.holds host.old) (H.refuses host.old) (H.stores host.new file.now) content file.now kind (optional_text path.entry) result }
+    ensures others { SparesOthers (H.stores host.old) (H.stores host.new) (Some file.now) }
+    ensures shut { H.shut host.old file.now → AnswersShut (host.new ≡ host.old) (IsNoFileOr file.now (LacksInputAsked (H.holds host.old) kind (optional_text path.entry))) result }
 {
     match path {
         Some(path) => explain_input(alloc, file, kind, path, host),

@@ -1,13 +1,14 @@
 //! What a word does with a warehouse that is open.
 
-ghost use Rattle.std.specs.Prelude.{List};
+ghost use Rattle.std.specs.Prelude.{◌≡◌, List, Some};
 ghost use Rattle.sqlite.specs.State.{HasCleanDisk};
 ghost use Rattle.wh_history.specs.Accepted.{Accepted};
 ghost use Rattle.wh_history.specs.Tables.{Limits};
 ghost use Rattle.wh_engine.specs.Answered.{IsReady};
 ghost use Rattle.wh_store.specs.Reads.{state_of};
 ghost use Rattle.wh_program.specs.Standing.{DatabaseContent, Rests, Standing, Stands};
-ghost use Rattle.wh_program.specs.Warehouse.{Told, Opens, AnswersWork};
+ghost use Rattle.wh_program.specs.Warehouse.{Told, Opens, AnswersWork, AnswersShut, IsNoFile};
+ghost use Rattle.wh_program.specs.Tasks.{SparesOthers};
 
 use crate::host::{Host, Visitor};
 use crate::lines::answer::Answer;
@@ -17,7 +18,7 @@ use sqlite::{Alter, Connection};
 use std::alloc::{AllocError, Global};
 use std::io;
 use std::io::Write;
-use wh_engine::Engine;
+use wh_engine::{Engine, OpenFault};
 
 /// What is done with a warehouse that is open, and answered.
 pub trait Work: Drop {
@@ -28,6 +29,11 @@ pub trait Work: Drop {
         ensures clean { HasCleanDisk (state_of S.Store engine.new.tables) → HasCleanDisk (state_of S.Store engine.old.tables) }
         ensures done { HasCleanDisk (state_of S.Store engine.new.tables) → (limits : Limits) (commands : List Accepted) → IsReady limits commands engine.old.session (state_of S.Store engine.old.tables)
             → (after : Standing) × does self limits commands result after × Stands after (state_of S.Store engine.new.tables) };
+}
+
+/// Whether it was the store that refused an opening.
+pub fn is_of_store(fault: &OpenFault) -> bool {
+    matches!(fault, OpenFault::Store(_))
 }
 
 /// Opens what stands as a warehouse, and works on it; or answers why it isn't one that is opened.
@@ -46,13 +52,17 @@ impl<K: Work> Visitor for OnOpened<K> {
         alloc: Global,
         connection: Connection<T>,
         _out: &mut W,
-    ) -> (Result<Answer, AllocError>, Connection<T>) {
+    ) -> (Result<Answer, AllocError>, Connection<T>, bool) {
         match Engine::open(alloc, connection) {
             Ok(mut engine) => {
                 let answer = self.work.work(alloc, &mut engine);
-                (answer, engine.close())
+                let must_reopen = engine.must_reopen();
+                (answer, engine.close(), must_reopen)
             }
-            Err((fault, connection)) => (opening_answer(alloc, fault), connection),
+            Err((fault, connection)) => {
+                let answer = opening_answer(alloc, fault);
+                (answer, connection, is_of_store(&fault))
+            }
         }
     }
 }
@@ -64,7 +74,9 @@ pub fn work_on<H: Host, K: Work>(
     work: K,
     host: &mut H,
 ) -> Result<Answer, AllocError>
-    ensures { (content : DatabaseContent) → H.stores host.old file.now (Rests content) → AnswersWork (H.refuses host.old) (H.stores host.new file.now) (K.does work) content file.now result }
+    ensures answers { (content : DatabaseContent) → H.stores host.old file.now (Rests content) → AnswersWork (H.refuses host.old) (H.stores host.new file.now) (K.does work) content file.now result }
+    ensures others { SparesOthers (H.stores host.old) (H.stores host.new) (Some file.now) }
+    ensures shut { H.shut host.old file.now → AnswersShut (host.new ≡ host.old) (IsNoFile file.now) result }
 {
     let visit = host.with_existing(alloc, file, OnOpened { work }, &mut io::sink());
     answered(alloc, file, visit)

@@ -1,23 +1,25 @@
 //! The reports of a warehouse in a file.
 
-ghost use Rattle.std.specs.Prelude.{List};
+ghost use Rattle.std.specs.Prelude.{◌≡◌, List, Some};
 ghost use Rattle.wh_admission.specs.Admission.{current_policy};
 ghost use Rattle.wh_engine.specs.Scanned.{WasClean, WhenReady};
 ghost use Rattle.wh_program.specs.Readings.{IsReported, AnswersReport, asked_answer, asked_under};
 ghost use Rattle.wh_program.specs.ReportsRead.{IsReadFor};
-ghost use Rattle.wh_program.specs.Request.{report_words};
+ghost use Rattle.wh_words.specs.Request.{report_words};
 ghost use Rattle.wh_program.specs.Standing.{DatabaseContent, Rests};
+ghost use Rattle.wh_program.specs.Tasks.{SparesOthers};
+ghost use Rattle.wh_program.specs.Warehouse.{AnswersShut, IsNoFile};
 
 use crate::host::Host;
 use crate::lines::answer::Answer;
 use crate::lines::reporting::{report_answer, request_answer};
 use crate::visits::opened::{Work, work_on};
-use crate::words::command::AskedReport;
 use sqlite::Alter;
 use std::alloc::{AllocError, Global};
 use wh_day::ParseError;
 use wh_engine::Engine;
 use wh_report::{Request, report};
+use wh_words::AskedReport;
 
 /// The answer to the words of a report, over a warehouse that is open.
 pub fn asked_answer<S: Alter>(
@@ -59,7 +61,9 @@ pub fn visit_report<H: Host>(
     asked: AskedReport<'_>,
     host: &mut H,
 ) -> Result<Answer, AllocError>
-    ensures { (content : DatabaseContent) → H.stores host.old file.now (Rests content) → AnswersReport (H.refuses host.old) (H.stores host.new file.now) content file.now (report_words asked.entry) result }
+    ensures answers { (content : DatabaseContent) → H.stores host.old file.now (Rests content) → AnswersReport (H.refuses host.old) (H.stores host.new file.now) content file.now (report_words asked.entry) result }
+    ensures others { SparesOthers (H.stores host.old) (H.stores host.new) (Some file.now) }
+    ensures shut { H.shut host.old file.now → AnswersShut (host.new ≡ host.old) (IsNoFile file.now) result }
 {
     work_on(alloc, file, Reporting { asked }, host)
 }

@@ -1,10 +1,12 @@
 //! The reports that a list asks for, over one open of a warehouse.
 
-ghost use Rattle.std.specs.Prelude.{◌≡◌, List, IfOk};
+ghost use Rattle.std.specs.Prelude.{◌≡◌, List, IfOk, Some};
 ghost use Rattle.wh_engine.specs.Scanned.{WasClean, WhenReady};
-ghost use Rattle.wh_program.specs.ReportLists.{IsListed, AnswersReports, listed_answer};
+ghost use Rattle.wh_program.specs.ReportLists.{IsListed, AnswersReports, listed_answer, LacksList};
 ghost use Rattle.wh_program.specs.ReportsRead.{IsReadFor, AreReadFor};
 ghost use Rattle.wh_program.specs.Standing.{DatabaseContent, Rests};
+ghost use Rattle.wh_program.specs.Tasks.{SparesOthers};
+ghost use Rattle.wh_program.specs.Warehouse.{AnswersShut, IsNoFileOr};
 
 use crate::host::{Host, manifest_file_of};
 use crate::lines::answer::Answer;
@@ -13,13 +15,12 @@ use crate::lines::reports_text::whole_answer;
 use crate::lines::{bad_manifest, no_file};
 use crate::visits::opened::{Work, work_on};
 use crate::visits::report::asked_answer;
-use crate::words::command::AskedReport;
 use sqlite::Alter;
 use std::alloc::{AllocError, Global};
-use wh_batch::{ListedReport, ReportList};
+use wh_batch::{ListedReport, Mode, ReportList};
 use wh_day::ParseError;
 use wh_engine::Engine;
-use wh_report::Mode;
+use wh_words::AskedReport;
 
 /// The answer to a report of a list, over a warehouse that is open.
 fn listed_answer<S: Alter>(
@@ -88,8 +89,10 @@ pub fn reports<H: Host>(
     list: &str,
     host: &mut H,
 ) -> Result<Answer, AllocError>
-    ensures { (content : DatabaseContent) → H.stores host.old file.now (Rests content)
+    ensures answers { (content : DatabaseContent) → H.stores host.old file.now (Rests content)
         → AnswersReports (H.holds host.old) (H.refuses host.old) (H.stores host.new file.now) content file.now list.now result }
+    ensures others { SparesOthers (H.stores host.old) (H.stores host.new) (Some file.now) }
+    ensures shut { H.shut host.old file.now → AnswersShut (host.new ≡ host.old) (IsNoFileOr file.now (LacksList (H.holds host.old) list.now)) result }
 {
     let Some(text) = manifest_file_of(alloc, list, host)? else {
         return no_file(alloc, list);

@@ -1,12 +1,13 @@
 //! The commands on a warehouse in a file.
 
-ghost use Rattle.std.specs.Prelude.{◌≡◌, ◌≤◌, IfOk, IfErr, option_map, vec_capacity};
+ghost use Rattle.std.specs.Prelude.{◌≡◌, ◌≤◌, IfOk, IfErr, option_map, vec_capacity, Some};
 ghost use Rattle.wh_program.specs.Answer.{failed, no_file_line};
 ghost use Rattle.wh_program.specs.Inputs.{up_to, policy_limit, as_input};
 ghost use Rattle.wh_program.specs.Room.{longest_answer};
 ghost use Rattle.wh_program.specs.Standing.{DatabaseContent, Standing, Rests};
-ghost use Rattle.wh_program.specs.Warehouse.{IsReplied, IsForetold, IsCounted, IsCommandOf, Makes, Sends, Plans, AnswersWith, AnswersCommand, AnswersUpgrade, AnswersMaking, AnswersStatus, IsJudgedFirst};
+ghost use Rattle.wh_program.specs.Warehouse.{IsReplied, IsForetold, IsCounted, IsCommandOf, Makes, Sends, Plans, AnswersWith, AnswersCommand, AnswersUpgrade, AnswersMaking, AnswersStatus, IsJudgedFirst, AnswersShut, IsNoFile, IsNoFileOr, LacksFile, LacksPolicy};
 ghost use Rattle.wh_program.specs.declared.host.HostError.TheVariants.{NoFile};
+ghost use Rattle.wh_program.specs.Tasks.{SparesOthers};
 
 use crate::host::{Host, HostError, Visitor, file_of};
 use crate::limits::input_limit;
@@ -22,9 +23,14 @@ use std::alloc::{AllocError, Global};
 use std::io;
 use std::io::Write;
 use wh_day::{ParseError, Value};
-use wh_engine::{Command, CommandKind, Engine};
+use wh_engine::{Command, CommandKind, Engine, InitFault};
 use wh_policy::{POLICY_LIMIT, Policy};
 use wh_rows::Limits;
+
+/// Whether it was the store that refused a making.
+fn is_stopped(fault: &InitFault) -> bool {
+    matches!(fault, InitFault::Store(_))
+}
 
 /// Makes a warehouse under the policy that these bytes write.
 #[derive(Drop)]
@@ -42,14 +48,17 @@ impl Visitor for Making {
         alloc: Global,
         connection: Connection<T>,
         _out: &mut W,
-    ) -> (Result<Answer, AllocError>, Connection<T>) {
+    ) -> (Result<Answer, AllocError>, Connection<T>, bool) {
         // The room is there before anything is written, so that no memory is wanted once the warehouse is made.
         let Ok(room) = room_for_line(alloc) else {
-            return (Err(AllocError), connection);
+            return (Err(AllocError), connection, false);
         };
         match Engine::init(alloc, connection, &self.policy, Limits::greatest()) {
-            Ok(engine) => (made(room), engine.close()),
-            Err((fault, connection)) => (making_answer(room, &fault), connection),
+            Ok(engine) => (made(room), engine.close(), false),
+            Err((fault, connection)) => {
+                let answer = making_answer(room, &fault);
+                (answer, connection, is_stopped(&fault))
+            }
         }
     }
 }
@@ -123,7 +132,9 @@ fn init_under<H: Host>(
     policy: Vec<u8>,
     host: &mut H,
 ) -> Result<Answer, AllocError>
-    ensures { (content : DatabaseContent) → H.stores host.old file.now (Rests content) → AnswersMaking (H.refuses host.old) (H.stores host.new file.now) content file.now policy.items result }
+    ensures answers { (content : DatabaseContent) → H.stores host.old file.now (Rests content) → AnswersMaking (H.refuses host.old) (H.stores host.new file.now) content file.now policy.items result }
+    ensures others { SparesOthers (H.stores host.old) (H.stores host.new) (Some file.now) }
+    ensures shut { H.shut host.old file.now → AnswersShut (host.new ≡ host.old) (IsNoFile file.now) result }
 {
     let visit = host.with_connection(alloc, file, Making { policy }, &mut io::sink());
     answered(alloc, file, visit)
@@ -139,6 +150,8 @@ pub fn init<H: Host>(
     ensures made { (content : DatabaseContent) → H.stores host.old file.now (Rests content)
         → AnswersWith (up_to policy_limit (H.holds host.old)) (H.refuses host.old) (H.stores host.new file.now) Makes content file.now policy.now result }
     ensures judged { IsJudgedFirst (up_to policy_limit (H.holds host.old)) (host.new ≡ host.old) policy.now result }
+    ensures others { SparesOthers (H.stores host.old) (H.stores host.new) (Some file.now) }
+    ensures shut { H.shut host.old file.now → AnswersShut (host.new ≡ host.old) (IsNoFileOr file.now (LacksPolicy (up_to policy_limit (H.holds host.old)) policy.now)) result }
 {
     let Some(text) = file_of(alloc, policy, POLICY_LIMIT, host)? else {
         return no_file(alloc, policy);
@@ -204,7 +217,9 @@ fn send_command<H: Host>(
     command: Command,
     host: &mut H,
 ) -> Result<Answer, AllocError>
-    ensures { (content : DatabaseContent) → H.stores host.old file.now (Rests content) → AnswersCommand (H.refuses host.old) (H.stores host.new file.now) content file.now command result }
+    ensures answers { (content : DatabaseContent) → H.stores host.old file.now (Rests content) → AnswersCommand (H.refuses host.old) (H.stores host.new file.now) content file.now command result }
+    ensures others { SparesOthers (H.stores host.old) (H.stores host.new) (Some file.now) }
+    ensures shut { H.shut host.old file.now → AnswersShut (host.new ≡ host.old) (IsNoFile file.now) result }
 {
     let room = room_for_receipt(alloc, command.id.as_str())?;
     work_on(alloc, file, Sending { command, room }, host)
@@ -219,8 +234,10 @@ pub fn send<H: Host>(
     path: &str,
     host: &mut H,
 ) -> Result<Answer, AllocError>
-    ensures { (content : DatabaseContent) → H.stores host.old file.now (Rests content)
+    ensures answers { (content : DatabaseContent) → H.stores host.old file.now (Rests content)
         → AnswersWith (as_input kind (H.holds host.old)) (H.refuses host.old) (H.stores host.new file.now) (Sends kind id.now) content file.now path.now result }
+    ensures others { SparesOthers (H.stores host.old) (H.stores host.new) (Some file.now) }
+    ensures shut { H.shut host.old file.now → AnswersShut (host.new ≡ host.old) (IsNoFileOr file.now (LacksFile (as_input kind (H.holds host.old)) path.now)) result }
 {
     let Some(command) = command_from_file(alloc, kind, id, path, host)? else {
         return no_file(alloc, path);
@@ -235,7 +252,9 @@ pub fn upgrade<H: Host>(
     id: &str,
     host: &mut H,
 ) -> Result<Answer, AllocError>
-    ensures { (content : DatabaseContent) → H.stores host.old file.now (Rests content) → AnswersUpgrade (H.refuses host.old) (H.stores host.new file.now) content file.now id.now result }
+    ensures answers { (content : DatabaseContent) → H.stores host.old file.now (Rests content) → AnswersUpgrade (H.refuses host.old) (H.stores host.new file.now) content file.now id.now result }
+    ensures others { SparesOthers (H.stores host.old) (H.stores host.new) (Some file.now) }
+    ensures shut { H.shut host.old file.now → AnswersShut (host.new ≡ host.old) (IsNoFile file.now) result }
 {
     let upgrade = new_command(alloc, CommandKind::Upgrade, id, &[])?;
     send_command(alloc, file, upgrade, host)
@@ -250,8 +269,10 @@ pub fn plan<H: Host>(
     path: &str,
     host: &mut H,
 ) -> Result<Answer, AllocError>
-    ensures { (content : DatabaseContent) → H.stores host.old file.now (Rests content)
+    ensures answers { (content : DatabaseContent) → H.stores host.old file.now (Rests content)
         → AnswersWith (as_input kind (H.holds host.old)) (H.refuses host.old) (H.stores host.new file.now) (Plans kind id.now) content file.now path.now result }
+    ensures others { SparesOthers (H.stores host.old) (H.stores host.new) (Some file.now) }
+    ensures shut { H.shut host.old file.now → AnswersShut (host.new ≡ host.old) (IsNoFileOr file.now (LacksFile (as_input kind (H.holds host.old)) path.now)) result }
 {
     let Some(command) = command_from_file(alloc, kind, id, path, host)? else {
         return no_file(alloc, path);
@@ -261,7 +282,9 @@ pub fn plan<H: Host>(
 
 /// Tells how much the warehouse in a file holds.
 pub fn status<H: Host>(alloc: Global, file: &str, host: &mut H) -> Result<Answer, AllocError>
-    ensures { (content : DatabaseContent) → H.stores host.old file.now (Rests content) → AnswersStatus (H.refuses host.old) (H.stores host.new file.now) content file.now result }
+    ensures answers { (content : DatabaseContent) → H.stores host.old file.now (Rests content) → AnswersStatus (H.refuses host.old) (H.stores host.new file.now) content file.now result }
+    ensures others { SparesOthers (H.stores host.old) (H.stores host.new) (Some file.now) }
+    ensures shut { H.shut host.old file.now → AnswersShut (host.new ≡ host.old) (IsNoFile file.now) result }
 {
     work_on(alloc, file, Counting, host)
 }

@@ -1,14 +1,14 @@
 -- The statements on fact.
-use Rattle.std.proofs.Common.{Bool, ◌≡◌, ℕ, List, [], ◌∷◌, codes, map, pos, true, ◌&&◌, ◌==◌, refl, sym, ap₂, ◌∙◌, drop, ap, Some}
+use Rattle.std.proofs.Common.{Bool, ◌≡◌, List, [], ◌∷◌, codes, map, pos, true, ◌&&◌, ◌==◌, refl, sym, ap₂, ◌∙◌, drop, ap, Some}
 use Rattle.std.specs.Prelude.{IsTrue}
 use Rattle.std.proofs.lemmas.Bool.{and_parts}
-use Rattle.std.specs.Ordering.{is_ge, is_le, eq_by_cmp, nat_cmp, ordering_then}
+use Rattle.std.specs.Ordering.{eq_by_cmp, nat_cmp, ordering_then}
 use Rattle.std.specs.Cmp.Lexicographic.{slice_cmp}
 use Rattle.sqlite_value.specs.declared.value.Value.TheVariants.{Null, Int, Text}
 use Rattle.sqlite_value.specs.Keys.{first_key}
 use Rattle.sqlite_value.proofs.OrderLemmas.{then-Equal, value_cmp-Text}
 use Rattle.sqlite_sql.specs.declared.ops.BinaryOp.TheVariants.{Compare}
-use Rattle.sqlite_sql.specs.declared.ops.CompareOp.TheVariants.{Eq, Ge, Le}
+use Rattle.sqlite_sql.specs.declared.ops.CompareOp.TheVariants.{Eq}
 use Rattle.sqlite_sql.specs.declared.ops.UnaryOp.TheVariants.{ToNumeric}
 use Rattle.sqlite_sql.specs.Ops.{unary}
 use Rattle.sqlite_schema.specs.Rules.{equal}
@@ -33,16 +33,13 @@ use Rattle.wh_rows.specs.Types.{is_key, is_line, is_number, is_measure}
 use Rattle.wh_rows.specs.Rows as row
 use Rattle.wh_rows.specs.Texts as texts
 use Rattle.wh_rows.specs.Keys.{bind_line, stands_at_line}
-use Rattle.wh_rows.specs.Questions.{at_least, at_most, durable_of, is_sale_between}
-use Rattle.wh_policy.specs.declared.attribute.Dim.{Dim}
-use Rattle.wh_policy.specs.declared.attribute.Dim.TheVariants.{Product, Store, Customer}
 use Rattle.wh_rows.specs.Meaning.{command_of, same_rowid, PutsOne, MovesOne, RemovesOne, RemovesAll, ReadsSome, CountsAll}
 use Rattle.wh_rows.specs.Raw.{ReadsStored}
 use Rattle.wh_rows.specs.Rekey.{Rekey, rekey_text, bind_rekey, are_keys, with_keys}
 use Rattle.wh_rows.proofs.Cast.{cast_row_own}
 use Rattle.wh_rows.proofs.ColumnLemmas.{both}
 use Rattle.wh_rows.proofs.ShownColumns.{fact_shown, by_two}
-use Rattle.wh_rows.proofs.Keys.{and-true, equal-Nat, equal-Text, sorted-Nat, at_least-Nat, at_most-Nat, then_eq, trimmed_and}
+use Rattle.wh_rows.proofs.Keys.{and-true, equal-Nat, equal-Text, sorted-Nat, then_eq, trimmed_and}
 use Rattle.wh_history.specs.declared.facts.Fact.{Fact}
 use Rattle.wh_day.specs.Day.{is_day}
 
@@ -205,69 +202,6 @@ get format k = record {
   in_order = λ v w. ap₂ ordering_then (value_cmp-Text v.ticket w.ticket) (then-Equal _ ∙ sorted-Nat v.line w.line);
 }
 
--- the facts of a store from one day to another
-pub of_store_between : (format : Format) (durable from to : ℕ) → ReadsSome (schema_in format) row.fact (Int (pos durable) ∷ Int (pos from) ∷ Int (pos to) ∷ []) (λ r. eq_by_cmp nat_cmp durable r.store_durable && (is_ge (nat_cmp r.day from) && is_le (nat_cmp r.day to))) (texts.sales_between Store)
-unfolding understood everything unary
-of_store_between format durable from to = record {
-  tests = op2 (Compare Eq Binary) (col 1 7) (op1 ToNumeric (col 0 0)) ∷ op2 (Compare Ge Binary) (col 1 3) (op1 ToNumeric (col 0 1)) ∷ op2 (Compare Le Binary) (col 1 3) (op1 ToNumeric (col 0 2)) ∷ [];
-  project = fact_shown;
-  order = by_two;
-  names = map (λ c. c.name) row.fact.table.columns;
-  command = refl;
-  plain = (refl, refl);
-  unlisted = refl;
-  test = λ r. equal Binary (column r 6) (Int (pos durable)) && (at_least (column r 2) (Int (pos from)) && (at_most (column r 2) (Int (pos to)) && true));
-  hits = λ r. refl;
-  agree = λ w. ap₂ ◌&&◌ (equal-Nat w.store_durable durable) (ap₂ ◌&&◌ (at_least-Nat w.day from) (and-true _ ∙ at_most-Nat w.day to));
-  sorted_by = λ r. column r 0 ∷ column r 1 ∷ [];
-  shows = λ r. refl;
-  in_order = λ v w. ap₂ ordering_then (value_cmp-Text v.ticket w.ticket) (then-Equal _ ∙ sorted-Nat v.line w.line);
-}
-
--- the facts of a product from one day to another
-pub of_product_between : (format : Format) (durable from to : ℕ) → ReadsSome (schema_in format) row.fact (Int (pos durable) ∷ Int (pos from) ∷ Int (pos to) ∷ []) (λ r. eq_by_cmp nat_cmp durable r.product_durable && (is_ge (nat_cmp r.day from) && is_le (nat_cmp r.day to))) (texts.sales_between Product)
-unfolding understood everything unary
-of_product_between format durable from to = record {
-  tests = op2 (Compare Eq Binary) (col 1 8) (op1 ToNumeric (col 0 0)) ∷ op2 (Compare Ge Binary) (col 1 3) (op1 ToNumeric (col 0 1)) ∷ op2 (Compare Le Binary) (col 1 3) (op1 ToNumeric (col 0 2)) ∷ [];
-  project = fact_shown;
-  order = by_two;
-  names = map (λ c. c.name) row.fact.table.columns;
-  command = refl;
-  plain = (refl, refl);
-  unlisted = refl;
-  test = λ r. equal Binary (column r 7) (Int (pos durable)) && (at_least (column r 2) (Int (pos from)) && (at_most (column r 2) (Int (pos to)) && true));
-  hits = λ r. refl;
-  agree = λ w. ap₂ ◌&&◌ (equal-Nat w.product_durable durable) (ap₂ ◌&&◌ (at_least-Nat w.day from) (and-true _ ∙ at_most-Nat w.day to));
-  sorted_by = λ r. column r 0 ∷ column r 1 ∷ [];
-  shows = λ r. refl;
-  in_order = λ v w. ap₂ ordering_then (value_cmp-Text v.ticket w.ticket) (then-Equal _ ∙ sorted-Nat v.line w.line);
-}
-
--- the facts of a customer from one day to another
-pub of_customer_between : (format : Format) (durable from to : ℕ) → ReadsSome (schema_in format) row.fact (Int (pos durable) ∷ Int (pos from) ∷ Int (pos to) ∷ []) (λ r. eq_by_cmp nat_cmp durable r.customer_durable && (is_ge (nat_cmp r.day from) && is_le (nat_cmp r.day to))) (texts.sales_between Customer)
-unfolding understood everything unary
-of_customer_between format durable from to = record {
-  tests = op2 (Compare Eq Binary) (col 1 9) (op1 ToNumeric (col 0 0)) ∷ op2 (Compare Ge Binary) (col 1 3) (op1 ToNumeric (col 0 1)) ∷ op2 (Compare Le Binary) (col 1 3) (op1 ToNumeric (col 0 2)) ∷ [];
-  project = fact_shown;
-  order = by_two;
-  names = map (λ c. c.name) row.fact.table.columns;
-  command = refl;
-  plain = (refl, refl);
-  unlisted = refl;
-  test = λ r. equal Binary (column r 8) (Int (pos durable)) && (at_least (column r 2) (Int (pos from)) && (at_most (column r 2) (Int (pos to)) && true));
-  hits = λ r. refl;
-  agree = λ w. ap₂ ◌&&◌ (equal-Nat w.customer_durable durable) (ap₂ ◌&&◌ (at_least-Nat w.day from) (and-true _ ∙ at_most-Nat w.day to));
-  sorted_by = λ r. column r 0 ∷ column r 1 ∷ [];
-  shows = λ r. refl;
-  in_order = λ v w. ap₂ ordering_then (value_cmp-Text v.ticket w.ticket) (then-Equal _ ∙ sorted-Nat v.line w.line);
-}
-
--- the facts of a member of this dimension from one day to another
-pub of_sales_between : (format : Format) (dim : Dim) (durable from to : ℕ) → ReadsSome (schema_in format) row.fact (Int (pos durable) ∷ Int (pos from) ∷ Int (pos to) ∷ []) (λ r. eq_by_cmp nat_cmp durable (durable_of dim r) && (is_ge (nat_cmp r.day from) && is_le (nat_cmp r.day to))) (texts.sales_between dim)
-of_sales_between format Product durable from to = of_product_between format durable from to
-of_sales_between format Store durable from to = of_store_between format durable from to
-of_sales_between format Customer durable from to = of_customer_between format durable from to
-
 -- ---- read, of any stored rows
 
 pub all_stored : (format : Format) → ReadsStored (schema_in format) row.fact [] (λ r. true) (λ r. true) texts.fact.all
@@ -277,12 +211,6 @@ all_stored format = record { reads = all format; tested = λ r. refl }
 pub get_stored : (format : Format) (k : LineKey) → ReadsStored (schema_in format) row.fact (bind_line k) (stands_at_line k) (λ r. eq_by_cmp row.fact.order k (row.fact.key r)) texts.fact.get
 unfolding get
 get_stored format k = record { reads = get format k; tested = λ r. refl }
-
-pub of_sales_between_stored : (format : Format) (dim : Dim) (durable from to : ℕ) → ReadsStored (schema_in format) row.fact (Int (pos durable) ∷ Int (pos from) ∷ Int (pos to) ∷ []) (is_sale_between dim durable from to) (λ r. eq_by_cmp nat_cmp durable (durable_of dim r) && (is_ge (nat_cmp r.day from) && is_le (nat_cmp r.day to))) (texts.sales_between dim)
-unfolding of_sales_between of_product_between of_store_between of_customer_between
-of_sales_between_stored format Product durable from to = record { reads = of_product_between format durable from to; tested = λ r. refl }
-of_sales_between_stored format Store durable from to = record { reads = of_store_between format durable from to; tested = λ r. refl }
-of_sales_between_stored format Customer durable from to = record { reads = of_customer_between format durable from to; tested = λ r. refl }
 
 -- ---- count
 

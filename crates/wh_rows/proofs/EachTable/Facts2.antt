@@ -1,14 +1,14 @@
 -- The statements on fact2.
-use Rattle.std.proofs.Common.{ℕ, [], ◌∷◌, codes, map, pos, true, ◌&&◌, refl, sym, ap₂, ◌∙◌, drop, ap}
+use Rattle.std.proofs.Common.{[], ◌∷◌, codes, map, pos, true, ◌&&◌, refl, sym, ap₂, ◌∙◌, drop, ap}
 use Rattle.std.specs.Prelude.{IsTrue}
 use Rattle.std.proofs.lemmas.Bool.{and_parts}
-use Rattle.std.specs.Ordering.{is_ge, is_le, eq_by_cmp, nat_cmp, ordering_then}
+use Rattle.std.specs.Ordering.{eq_by_cmp, nat_cmp, ordering_then}
 use Rattle.std.specs.Cmp.Lexicographic.{slice_cmp}
 use Rattle.sqlite_value.specs.declared.value.Value.TheVariants.{Null, Int, Text}
 use Rattle.sqlite_value.specs.Keys.{first_key}
 use Rattle.sqlite_value.proofs.OrderLemmas.{then-Equal, value_cmp-Text}
 use Rattle.sqlite_sql.specs.declared.ops.BinaryOp.TheVariants.{Compare}
-use Rattle.sqlite_sql.specs.declared.ops.CompareOp.TheVariants.{Eq, Ge, Le}
+use Rattle.sqlite_sql.specs.declared.ops.CompareOp.TheVariants.{Eq}
 use Rattle.sqlite_sql.specs.declared.ops.UnaryOp.TheVariants.{ToNumeric}
 use Rattle.sqlite_sql.specs.Ops.{unary}
 use Rattle.sqlite_schema.specs.Rules.{equal}
@@ -27,16 +27,13 @@ use Rattle.wh_rows.specs.Types.{is_discount}
 use Rattle.wh_rows.specs.Rows as row
 use Rattle.wh_rows.specs.Texts as texts
 use Rattle.wh_rows.specs.Keys.{bind_line, stands_at_line}
-use Rattle.wh_rows.specs.Questions.{at_least, at_most, durable_of, is_sale_between}
-use Rattle.wh_policy.specs.declared.attribute.Dim.{Dim}
-use Rattle.wh_policy.specs.declared.attribute.Dim.TheVariants.{Product, Store, Customer}
 use Rattle.wh_rows.specs.Meaning.{Means, PutsOne, MovesOne, RemovesOne, ReadsSome, CountsAll}
 use Rattle.wh_rows.specs.Raw.{ReadsStored}
 use Rattle.wh_rows.specs.Rekey.{Rekey, rekey2_text, bind_rekey, are_keys, with_keys}
 use Rattle.wh_rows.proofs.Cast.{cast_row_own}
 use Rattle.wh_rows.proofs.ColumnLemmas.{both}
 use Rattle.wh_rows.proofs.ShownColumns.{fact2_shown, by_two}
-use Rattle.wh_rows.proofs.Keys.{and-true, equal-Nat, equal-Text, sorted-Nat, at_least-Nat, at_most-Nat, then_eq, trimmed_and}
+use Rattle.wh_rows.proofs.Keys.{and-true, equal-Nat, equal-Text, sorted-Nat, then_eq, trimmed_and}
 use Rattle.wh_history.specs.declared.facts.Fact.{Fact}
 use Rattle.wh_rows.proofs.EachTable.Facts.{good_rekeyed}
 
@@ -148,69 +145,6 @@ get k = record {
   in_order = λ v w. ap₂ ordering_then (value_cmp-Text v.ticket w.ticket) (then-Equal _ ∙ sorted-Nat v.line w.line);
 }
 
--- the facts of a store from one day to another
-pub of_store_between : (durable from to : ℕ) → ReadsSome (schema_in Two) row.fact2 (Int (pos durable) ∷ Int (pos from) ∷ Int (pos to) ∷ []) (λ r. eq_by_cmp nat_cmp durable r.store_durable && (is_ge (nat_cmp r.day from) && is_le (nat_cmp r.day to))) (texts.sales_between2 Store)
-unfolding understood everything unary
-of_store_between durable from to = record {
-  tests = op2 (Compare Eq Binary) (col 1 7) (op1 ToNumeric (col 0 0)) ∷ op2 (Compare Ge Binary) (col 1 3) (op1 ToNumeric (col 0 1)) ∷ op2 (Compare Le Binary) (col 1 3) (op1 ToNumeric (col 0 2)) ∷ [];
-  project = fact2_shown;
-  order = by_two;
-  names = map (λ c. c.name) row.fact2.table.columns;
-  command = refl;
-  plain = (refl, refl);
-  unlisted = refl;
-  test = λ r. equal Binary (column r 6) (Int (pos durable)) && (at_least (column r 2) (Int (pos from)) && (at_most (column r 2) (Int (pos to)) && true));
-  hits = λ r. refl;
-  agree = λ w. ap₂ ◌&&◌ (equal-Nat w.store_durable durable) (ap₂ ◌&&◌ (at_least-Nat w.day from) (and-true _ ∙ at_most-Nat w.day to));
-  sorted_by = λ r. column r 0 ∷ column r 1 ∷ [];
-  shows = λ r. refl;
-  in_order = λ v w. ap₂ ordering_then (value_cmp-Text v.ticket w.ticket) (then-Equal _ ∙ sorted-Nat v.line w.line);
-}
-
--- the facts of a product from one day to another
-pub of_product_between : (durable from to : ℕ) → ReadsSome (schema_in Two) row.fact2 (Int (pos durable) ∷ Int (pos from) ∷ Int (pos to) ∷ []) (λ r. eq_by_cmp nat_cmp durable r.product_durable && (is_ge (nat_cmp r.day from) && is_le (nat_cmp r.day to))) (texts.sales_between2 Product)
-unfolding understood everything unary
-of_product_between durable from to = record {
-  tests = op2 (Compare Eq Binary) (col 1 8) (op1 ToNumeric (col 0 0)) ∷ op2 (Compare Ge Binary) (col 1 3) (op1 ToNumeric (col 0 1)) ∷ op2 (Compare Le Binary) (col 1 3) (op1 ToNumeric (col 0 2)) ∷ [];
-  project = fact2_shown;
-  order = by_two;
-  names = map (λ c. c.name) row.fact2.table.columns;
-  command = refl;
-  plain = (refl, refl);
-  unlisted = refl;
-  test = λ r. equal Binary (column r 7) (Int (pos durable)) && (at_least (column r 2) (Int (pos from)) && (at_most (column r 2) (Int (pos to)) && true));
-  hits = λ r. refl;
-  agree = λ w. ap₂ ◌&&◌ (equal-Nat w.product_durable durable) (ap₂ ◌&&◌ (at_least-Nat w.day from) (and-true _ ∙ at_most-Nat w.day to));
-  sorted_by = λ r. column r 0 ∷ column r 1 ∷ [];
-  shows = λ r. refl;
-  in_order = λ v w. ap₂ ordering_then (value_cmp-Text v.ticket w.ticket) (then-Equal _ ∙ sorted-Nat v.line w.line);
-}
-
--- the facts of a customer from one day to another
-pub of_customer_between : (durable from to : ℕ) → ReadsSome (schema_in Two) row.fact2 (Int (pos durable) ∷ Int (pos from) ∷ Int (pos to) ∷ []) (λ r. eq_by_cmp nat_cmp durable r.customer_durable && (is_ge (nat_cmp r.day from) && is_le (nat_cmp r.day to))) (texts.sales_between2 Customer)
-unfolding understood everything unary
-of_customer_between durable from to = record {
-  tests = op2 (Compare Eq Binary) (col 1 9) (op1 ToNumeric (col 0 0)) ∷ op2 (Compare Ge Binary) (col 1 3) (op1 ToNumeric (col 0 1)) ∷ op2 (Compare Le Binary) (col 1 3) (op1 ToNumeric (col 0 2)) ∷ [];
-  project = fact2_shown;
-  order = by_two;
-  names = map (λ c. c.name) row.fact2.table.columns;
-  command = refl;
-  plain = (refl, refl);
-  unlisted = refl;
-  test = λ r. equal Binary (column r 8) (Int (pos durable)) && (at_least (column r 2) (Int (pos from)) && (at_most (column r 2) (Int (pos to)) && true));
-  hits = λ r. refl;
-  agree = λ w. ap₂ ◌&&◌ (equal-Nat w.customer_durable durable) (ap₂ ◌&&◌ (at_least-Nat w.day from) (and-true _ ∙ at_most-Nat w.day to));
-  sorted_by = λ r. column r 0 ∷ column r 1 ∷ [];
-  shows = λ r. refl;
-  in_order = λ v w. ap₂ ordering_then (value_cmp-Text v.ticket w.ticket) (then-Equal _ ∙ sorted-Nat v.line w.line);
-}
-
--- the facts of a member of this dimension from one day to another
-pub of_sales_between : (dim : Dim) (durable from to : ℕ) → ReadsSome (schema_in Two) row.fact2 (Int (pos durable) ∷ Int (pos from) ∷ Int (pos to) ∷ []) (λ r. eq_by_cmp nat_cmp durable (durable_of dim r) && (is_ge (nat_cmp r.day from) && is_le (nat_cmp r.day to))) (texts.sales_between2 dim)
-of_sales_between Product durable from to = of_product_between durable from to
-of_sales_between Store durable from to = of_store_between durable from to
-of_sales_between Customer durable from to = of_customer_between durable from to
-
 -- ---- read, of any stored rows
 
 pub all_stored : ReadsStored (schema_in Two) row.fact2 [] (λ r. true) (λ r. true) texts.fact2.all
@@ -220,12 +154,6 @@ all_stored = record { reads = all; tested = λ r. refl }
 pub get_stored : (k : LineKey) → ReadsStored (schema_in Two) row.fact2 (bind_line k) (stands_at_line k) (λ r. eq_by_cmp row.fact2.order k (row.fact2.key r)) texts.fact2.get
 unfolding get
 get_stored k = record { reads = get k; tested = λ r. refl }
-
-pub of_sales_between_stored : (dim : Dim) (durable from to : ℕ) → ReadsStored (schema_in Two) row.fact2 (Int (pos durable) ∷ Int (pos from) ∷ Int (pos to) ∷ []) (is_sale_between dim durable from to) (λ r. eq_by_cmp nat_cmp durable (durable_of dim r) && (is_ge (nat_cmp r.day from) && is_le (nat_cmp r.day to))) (texts.sales_between2 dim)
-unfolding of_sales_between of_product_between of_store_between of_customer_between
-of_sales_between_stored Product durable from to = record { reads = of_product_between durable from to; tested = λ r. refl }
-of_sales_between_stored Store durable from to = record { reads = of_store_between durable from to; tested = λ r. refl }
-of_sales_between_stored Customer durable from to = record { reads = of_customer_between durable from to; tested = λ r. refl }
 
 -- ---- count
 
@@ -269,20 +197,6 @@ pub count_in : (format : Format) → Means (is_two format) (CountsAll (schema_in
 unfolding understood everything listing_schema
 count_in One = tt
 count_in Two = count
-
-pub of_sales_between_in : (format : Format) (dim : Dim) (durable from to : ℕ) → Means (is_two format) (ReadsSome (schema_in format) row.fact2 (Int (pos durable) ∷ Int (pos from) ∷ Int (pos to) ∷ []) (λ r. eq_by_cmp nat_cmp durable (durable_of dim r) && (is_ge (nat_cmp r.day from) && is_le (nat_cmp r.day to))) (texts.sales_between2 dim)) (understood (schema_in format) (texts.sales_between2 dim))
-unfolding understood everything listing_schema
-of_sales_between_in One Product durable from to = tt
-of_sales_between_in One Store durable from to = tt
-of_sales_between_in One Customer durable from to = tt
-of_sales_between_in Two dim durable from to = of_sales_between dim durable from to
-
-pub of_sales_between_stored_in : (format : Format) (dim : Dim) (durable from to : ℕ) → Means (is_two format) (ReadsStored (schema_in format) row.fact2 (Int (pos durable) ∷ Int (pos from) ∷ Int (pos to) ∷ []) (is_sale_between dim durable from to) (λ r. eq_by_cmp nat_cmp durable (durable_of dim r) && (is_ge (nat_cmp r.day from) && is_le (nat_cmp r.day to))) (texts.sales_between2 dim)) (understood (schema_in format) (texts.sales_between2 dim))
-unfolding understood everything listing_schema
-of_sales_between_stored_in One Product durable from to = tt
-of_sales_between_stored_in One Store durable from to = tt
-of_sales_between_stored_in One Customer durable from to = tt
-of_sales_between_stored_in Two dim durable from to = of_sales_between_stored dim durable from to
 
 pub rekey2_in : (format : Format) → Means (is_two format) (MovesOne (schema_in format) row.fact2 bind_rekey (λ r. r.0) with_keys rekey2_text) (understood (schema_in format) rekey2_text)
 unfolding understood everything listing_schema

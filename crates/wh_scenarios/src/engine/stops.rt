@@ -86,6 +86,49 @@ stops either check
 = as acknowledged, or with the next
 ";
 
+/// A part of dated records, for which the first ones are read before.
+pub const RECORDS: &str = "\
+files
+init small
+= made
+send product p1
+> id,day,brand
+> P1,2024-02-01,Acme
+= accepted 2: 1 records, 0 placeholders
+send product p2
+> id,day,brand
+> P1,2024-01-20,Bolt
+= accepted 3: 1 records, 0 placeholders
+records product 0
+= id,day,brand
+= P1,2024-01-20,Acme
+records product 1
+= id,day,brand
+= P1,2024-01-20,Bolt
+= P1,2024-02-01,Acme
+stops either records product 1
+= as acknowledged, or with the next
+";
+
+pub const QUERY: &str = "\
+files
+init small
+= made
+send product p1
+> id,day,brand
+> P1,2024-02-01,Acme
+= accepted 2: 1 records, 0 placeholders
+send sales s1
+> ticket,line,day,store,product,customer,quantity,amount,cost
+> T1,1,2024-03-05,S1,P1,,1,2.50,1.60
+= accepted 3: 1 records, 1 placeholders
+query product.brand:was store.city:was where product.brand:was=Acme 2024-01-01 2024-12-31
+= product.brand:was,store.city:was,lines,quantity,amount,cost,margin
+= Acme,(unknown),1,1,2.50,1.60,0.90
+stops either query product.brand:was store.city:was where product.brand:was=Acme 2024-01-01 2024-12-31
+= as acknowledged, or with the next
+";
+
 /// A night in one session: a making and eight commands, of which the last came already. After each stop all eight are delivered again. Then what
 /// it leads to.
 pub const NIGHT: &str = "\

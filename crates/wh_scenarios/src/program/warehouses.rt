@@ -441,13 +441,59 @@ run init w flat.toml
 
 # A taken name of an index is a refusal of the store, and nothing is left.
 anew
-sql w CREATE TABLE note (a); CREATE INDEX fact_by_store ON note (a)
+sql w CREATE TABLE note (a); CREATE INDEX change_by_member ON note (a)
 run init w flat.toml
 = failed: E9 store, disk
 = status 3
 run status w
 = failed: N1 not a warehouse
 = status 3
+
+# A file with further indexes of the facts, as earlier builds made them, goes on as it is, also where they are dropped.
+file p2.csv
+> id,day,description,brand,category,department,launched,supplier
+> P1,2024-02-01,Cola 1l,Bolt,Drinks,Grocery,2019,North
+file p3.csv
+> id,day,description,brand,category,department,launched,supplier
+> P1,2024-03-01,Cola 1l,Cima,Drinks,Grocery,2019,North
+file s1.csv
+> ticket,line,day,store,product,customer,quantity,amount,cost
+> T1,1,2024-03-05,S1,P1,,1,2.50,1.60
+anew
+run init w flat.toml
+= accepted 1 init: 0 records, 0 placeholders
+= status 0
+sql w CREATE INDEX fact_by_store ON fact (store_durable, day); CREATE INDEX fact_by_product ON fact (product_durable, day); CREATE INDEX fact_by_customer ON fact (customer_durable, day)
+run load w product p1 p1.csv
+= accepted 2 p1: 1 records, 0 placeholders
+= status 0
+run load w sales s1 s1.csv
+= accepted 3 s1: 1 records, 1 placeholders
+= status 0
+run load w product p2 p2.csv
+= accepted 4 p2: 1 records, 0 placeholders
+= status 0
+run dump w fact
+= ticket,line,day,store_key,product_key,customer_key,store_durable,product_durable,customer_durable,profile,quantity,amount,cost
+= T1,1,20240305,1,3,0,1,1,0,0,1,250,160
+= status 0
+run check w
+= clean
+= status 0
+run upgrade w u1
+= accepted 5 u1: 0 records, 0 placeholders
+= status 0
+sql w DROP INDEX fact_by_store; DROP INDEX fact_by_product; DROP INDEX fact_by_customer
+run load w product p3 p3.csv
+= accepted 6 p3: 1 records, 0 placeholders
+= status 0
+run dump w fact2
+= ticket,line,day,store_key,product_key,customer_key,store_durable,product_durable,customer_durable,profile,quantity,amount,cost,discount
+= T1,1,20240305,1,4,0,1,1,0,0,1,250,160,0
+= status 0
+run check w
+= clean
+= status 0
 
 # Other formats.
 anew

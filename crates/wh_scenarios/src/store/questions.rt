@@ -73,15 +73,15 @@ put fact 'T-1', 2, 20240610, 1, 9, 0, 3, 1, 2, 3, -9999, -999999999, 999999999
 put fact 'T-1', 10, 20240610, 1, 9, 0, 1, 2, 3, 3, -9999, -999999999, 999999999
 sales product 1 20240610 20240610
 = fact ticket, line, day, store_key, product_key, customer_key, store_durable, product_durable, customer_durable, profile, quantity, amount, cost
-= fact 'T-1', 2, 20240610, 1, 9, 0, 3, 1, 2, 3, -9999, -999999999, 999999999
 = fact 'T-1', 30, 20240610, 1, 9, 0, 2, 1, 3, 3, -9999, -999999999, 999999999
+= fact 'T-1', 2, 20240610, 1, 9, 0, 3, 1, 2, 3, -9999, -999999999, 999999999
 sales store 1 20240610 20240610
 = fact ticket, line, day, store_key, product_key, customer_key, store_durable, product_durable, customer_durable, profile, quantity, amount, cost
 = fact 'T-1', 10, 20240610, 1, 9, 0, 1, 2, 3, 3, -9999, -999999999, 999999999
 sales customer 3 20240610 20240610
 = fact ticket, line, day, store_key, product_key, customer_key, store_durable, product_durable, customer_durable, profile, quantity, amount, cost
-= fact 'T-1', 10, 20240610, 1, 9, 0, 1, 2, 3, 3, -9999, -999999999, 999999999
 = fact 'T-1', 30, 20240610, 1, 9, 0, 2, 1, 3, 3, -9999, -999999999, 999999999
+= fact 'T-1', 10, 20240610, 1, 9, 0, 1, 2, 3, 3, -9999, -999999999, 999999999
 sales customer 1 20240610 20240610
 
 # Facts of one product, store and customer on the day before, on the day and on the day after.
@@ -92,13 +92,13 @@ put fact 'T-1', 2, 20240610, 1, 9, 0, 1, 1, 1, 3, -9999, -999999999, 999999999
 put fact 'T-1', 1, 20240609, 1, 9, 0, 1, 1, 1, 3, -9999, -999999999, 999999999
 sales product 1 20240609 20240611
 = fact ticket, line, day, store_key, product_key, customer_key, store_durable, product_durable, customer_durable, profile, quantity, amount, cost
-= fact 'T-1', 1, 20240609, 1, 9, 0, 1, 1, 1, 3, -9999, -999999999, 999999999
-= fact 'T-1', 2, 20240610, 1, 9, 0, 1, 1, 1, 3, -9999, -999999999, 999999999
 = fact 'T-1', 3, 20240611, 1, 9, 0, 1, 1, 1, 3, -9999, -999999999, 999999999
+= fact 'T-1', 2, 20240610, 1, 9, 0, 1, 1, 1, 3, -9999, -999999999, 999999999
+= fact 'T-1', 1, 20240609, 1, 9, 0, 1, 1, 1, 3, -9999, -999999999, 999999999
 sales product 1 20240609 20240610
 = fact ticket, line, day, store_key, product_key, customer_key, store_durable, product_durable, customer_durable, profile, quantity, amount, cost
-= fact 'T-1', 1, 20240609, 1, 9, 0, 1, 1, 1, 3, -9999, -999999999, 999999999
 = fact 'T-1', 2, 20240610, 1, 9, 0, 1, 1, 1, 3, -9999, -999999999, 999999999
+= fact 'T-1', 1, 20240609, 1, 9, 0, 1, 1, 1, 3, -9999, -999999999, 999999999
 sales product 1 20240610 20240610
 = fact ticket, line, day, store_key, product_key, customer_key, store_durable, product_durable, customer_durable, profile, quantity, amount, cost
 = fact 'T-1', 2, 20240610, 1, 9, 0, 1, 1, 1, 3, -9999, -999999999, 999999999
@@ -110,13 +110,13 @@ sales product 1 19000101 20240608
 sales product 1 20240611 20240610
 sales store 1 20240609 20240611
 = fact ticket, line, day, store_key, product_key, customer_key, store_durable, product_durable, customer_durable, profile, quantity, amount, cost
-= fact 'T-1', 1, 20240609, 1, 9, 0, 1, 1, 1, 3, -9999, -999999999, 999999999
-= fact 'T-1', 2, 20240610, 1, 9, 0, 1, 1, 1, 3, -9999, -999999999, 999999999
 = fact 'T-1', 3, 20240611, 1, 9, 0, 1, 1, 1, 3, -9999, -999999999, 999999999
+= fact 'T-1', 2, 20240610, 1, 9, 0, 1, 1, 1, 3, -9999, -999999999, 999999999
+= fact 'T-1', 1, 20240609, 1, 9, 0, 1, 1, 1, 3, -9999, -999999999, 999999999
 sales store 1 20240609 20240610
 = fact ticket, line, day, store_key, product_key, customer_key, store_durable, product_durable, customer_durable, profile, quantity, amount, cost
-= fact 'T-1', 1, 20240609, 1, 9, 0, 1, 1, 1, 3, -9999, -999999999, 999999999
 = fact 'T-1', 2, 20240610, 1, 9, 0, 1, 1, 1, 3, -9999, -999999999, 999999999
+= fact 'T-1', 1, 20240609, 1, 9, 0, 1, 1, 1, 3, -9999, -999999999, 999999999
 sales store 1 20240610 20240610
 = fact ticket, line, day, store_key, product_key, customer_key, store_durable, product_durable, customer_durable, profile, quantity, amount, cost
 = fact 'T-1', 2, 20240610, 1, 9, 0, 1, 1, 1, 3, -9999, -999999999, 999999999
@@ -128,13 +128,13 @@ sales store 1 19000101 20240608
 sales store 1 20240611 20240610
 sales customer 1 20240609 20240611
 = fact ticket, line, day, store_key, product_key, customer_key, store_durable, product_durable, customer_durable, profile, quantity, amount, cost
-= fact 'T-1', 1, 20240609, 1, 9, 0, 1, 1, 1, 3, -9999, -999999999, 999999999
-= fact 'T-1', 2, 20240610, 1, 9, 0, 1, 1, 1, 3, -9999, -999999999, 999999999
 = fact 'T-1', 3, 20240611, 1, 9, 0, 1, 1, 1, 3, -9999, -999999999, 999999999
+= fact 'T-1', 2, 20240610, 1, 9, 0, 1, 1, 1, 3, -9999, -999999999, 999999999
+= fact 'T-1', 1, 20240609, 1, 9, 0, 1, 1, 1, 3, -9999, -999999999, 999999999
 sales customer 1 20240609 20240610
 = fact ticket, line, day, store_key, product_key, customer_key, store_durable, product_durable, customer_durable, profile, quantity, amount, cost
-= fact 'T-1', 1, 20240609, 1, 9, 0, 1, 1, 1, 3, -9999, -999999999, 999999999
 = fact 'T-1', 2, 20240610, 1, 9, 0, 1, 1, 1, 3, -9999, -999999999, 999999999
+= fact 'T-1', 1, 20240609, 1, 9, 0, 1, 1, 1, 3, -9999, -999999999, 999999999
 sales customer 1 20240610 20240610
 = fact ticket, line, day, store_key, product_key, customer_key, store_durable, product_durable, customer_durable, profile, quantity, amount, cost
 = fact 'T-1', 2, 20240610, 1, 9, 0, 1, 1, 1, 3, -9999, -999999999, 999999999
@@ -144,6 +144,47 @@ sales customer 1 20240611 99991231
 sales customer 1 20240612 99991231
 sales customer 1 19000101 20240608
 sales customer 1 20240611 20240610
+
+# Each member has its own days, and none before the pass begins.
+empty BEGIN
+create
+put fact 'T-1', 1, 20240609, 1, 9, 0, 1, 1, 1, 3, 1, 200, 300
+put fact 'T-1', 2, 20240610, 1, 9, 0, 1, 2, 1, 3, 1, 200, 300
+put fact 'T-1', 3, 20240611, 1, 9, 0, 1, 2, 1, 3, 1, 200, 300
+put fact 'T-1', 4, 20240611, 1, 9, 0, 1, 1, 1, 3, 1, 200, 300
+sales product 1 20240609 20240610, 2 20240611 20240612
+= fact ticket, line, day, store_key, product_key, customer_key, store_durable, product_durable, customer_durable, profile, quantity, amount, cost
+= fact 'T-1', 1, 20240609, 1, 9, 0, 1, 1, 1, 3, 1, 200, 300
+= fact 'T-1', 3, 20240611, 1, 9, 0, 1, 2, 1, 3, 1, 200, 300
+sales product 2 20240610 20240612, 1 20240609 20240611
+= fact ticket, line, day, store_key, product_key, customer_key, store_durable, product_durable, customer_durable, profile, quantity, amount, cost
+= fact 'T-1', 2, 20240610, 1, 9, 0, 1, 2, 1, 3, 1, 200, 300
+= fact 'T-1', 3, 20240611, 1, 9, 0, 1, 2, 1, 3, 1, 200, 300
+= fact 'T-1', 4, 20240611, 1, 9, 0, 1, 1, 1, 3, 1, 200, 300
+
+# A damaged fact is told where its member has its day, and is passed over where it is of another member or another day.
+sql UPDATE fact SET amount = 1000000000 WHERE line = 3
+all fact
+= damaged fact
+sales product 1 20240609 20240611
+= fact ticket, line, day, store_key, product_key, customer_key, store_durable, product_durable, customer_durable, profile, quantity, amount, cost
+= fact 'T-1', 1, 20240609, 1, 9, 0, 1, 1, 1, 3, 1, 200, 300
+= fact 'T-1', 4, 20240611, 1, 9, 0, 1, 1, 1, 3, 1, 200, 300
+sales product 2 20240609 20240610, 1 20240611 20240611
+= fact ticket, line, day, store_key, product_key, customer_key, store_durable, product_durable, customer_durable, profile, quantity, amount, cost
+= fact 'T-1', 2, 20240610, 1, 9, 0, 1, 2, 1, 3, 1, 200, 300
+= fact 'T-1', 4, 20240611, 1, 9, 0, 1, 1, 1, 3, 1, 200, 300
+sales product 2 20240611 20240611
+= damaged fact
+sales product 1 20240609 20240611, 2 20240609 20240611
+= damaged fact
+
+# What is no number is nobody's durable key, and no day.
+sql UPDATE fact SET product_durable = 'x' WHERE line = 3; UPDATE fact SET day = 'x' WHERE line = 4
+sales product 2 20240609 20240611, 1 20240609 20240611
+= fact ticket, line, day, store_key, product_key, customer_key, store_durable, product_durable, customer_durable, profile, quantity, amount, cost
+= fact 'T-1', 1, 20240609, 1, 9, 0, 1, 1, 1, 3, 1, 200, 300
+= fact 'T-1', 2, 20240610, 1, 9, 0, 1, 2, 1, 3, 1, 200, 300
 ";
 
 pub const PROFILES: &str = "

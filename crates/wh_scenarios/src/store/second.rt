@@ -17,7 +17,7 @@ facts 1 line T1 2
 = fact ticket, line, day, store_key, product_key, customer_key, store_durable, product_durable, customer_durable, profile, quantity, amount, cost
 = fact 'T1', 2, 20240611, 1, 1, 0, 1, 1, 0, 0, -1, -150, -100
 facts 1 line T1 3
-facts 1 between product 1 20240611 20240612
+facts 1 of product 1 20240611 20240612
 = fact ticket, line, day, store_key, product_key, customer_key, store_durable, product_durable, customer_durable, profile, quantity, amount, cost
 = fact 'T1', 2, 20240611, 1, 1, 0, 1, 1, 0, 0, -1, -150, -100
 upgrade
@@ -100,10 +100,10 @@ facts 2 line T2 16
 = fact2 ticket, line, day, store_key, product_key, customer_key, store_durable, product_durable, customer_durable, profile, quantity, amount, cost, discount
 = fact2 'T2', 16, 20240612, 2, 3, 4, 1, 1, 0, 5, 1, 150, 100, 25
 facts 1 line T2 16
-facts 2 between store 1 20240610 20240611
+facts 2 of store 1 20240610 20240611
 = fact2 ticket, line, day, store_key, product_key, customer_key, store_durable, product_durable, customer_durable, profile, quantity, amount, cost, discount
 = fact2 'T1', 1, 20240610, 1, 1, 0, 1, 1, 0, 0, 2, 300, 200, 0
-facts 1 between store 1 20240610 20240611
+facts 1 of store 1 20240610 20240611
 write
 > fact 2 put 'T9', 1, 20240613, 1, 1, 0, 1, 1, 0, 0, 1, 150, 100, 7
 > commit

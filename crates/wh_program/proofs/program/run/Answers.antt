@@ -1,9 +1,10 @@
-use Rattle.std.proofs.Common.{◌≡◌, ◌∙◌, refl, inl, inr, Some, ap, map, subst, sym}
-use Rattle.wh_program.specs.Request.{IsReadAs}
+use Rattle.std.proofs.Common.{◌≡◌, ◌∙◌, refl, inl, inr, Err, Some, ap, map, subst, sym}
+use Rattle.wh_words.specs.Request.{IsReadAs}
 use Rattle.wh_program.specs.Run.{GoesOut, Prints, out_of_memory}
-use Rattle.wh_program.specs.Task.{faults_in}
-use Rattle.wh_program.specs.Warehouse.{printed}
-use Rattle.wh_program.proofs.RunLemmas.{is_no_usage, not_run, parted}
+use Rattle.wh_words.specs.Task.{faults_in}
+use Rattle.wh_program.specs.Tasks.{IsToldBefore, warehouse_of}
+use Rattle.wh_program.specs.Warehouse.{IsNoFileOr, PrintsShut, Told, printed}
+use Rattle.wh_program.proofs.RunLemmas.{is_no_usage, not_run, parted, shut_all, spares_all}
 use Rattle.wh_program.proofs.program.run.Goals as goal
 
 pub returns-in-Ok-clause-runs : goal.returns-in-Ok-clause-runs
@@ -34,6 +35,14 @@ returns-in-Ok-clause-reads g c = λ task is.
     let asks = subst (λ asked. IsReadAs asked (faults_in (map g.S.AsStr.text c.args.words.now)) c.in-Ok.request) is c.in-Ok.ensures.read in
     (c.run_request.ensures.runs task asks, c.run_request.ensures.right_words task asks)
 
+pub returns-in-Ok-clause-others : goal.returns-in-Ok-clause-others
+returns-in-Ok-clause-others g c = λ task is.
+    c.run_request.ensures.others task (subst (λ asked. IsReadAs asked (faults_in (map g.S.AsStr.text c.args.words.now)) c.in-Ok.request) is c.in-Ok.ensures.read)
+
+pub returns-in-Ok-clause-shut : goal.returns-in-Ok-clause-shut
+returns-in-Ok-clause-shut g c = λ task is.
+    c.run_request.ensures.shut task (subst (λ asked. IsReadAs asked (faults_in (map g.S.AsStr.text c.args.words.now)) c.in-Ok.request) is c.in-Ok.ensures.read)
+
 pub returns-in-Ok-clause-declines : goal.returns-in-Ok-clause-declines
 returns-in-Ok-clause-declines g c = λ is.
     let faults = faults_in (map g.S.AsStr.text c.args.words.now) in
@@ -48,6 +57,15 @@ returns-in-Err-clause-reads g c = λ task is. (
       (parted (g.W.Write.contents c.args.out.now) (g.W.Write.contents c.print.new.out) c.code.result out_of_memory (rw (← c.code.ensures) at c.print.ensures)),
   (λ e. is_no_usage c.print.result (sym c.code.ensures ∙ e)),
 )
+
+pub returns-in-Err-clause-others : goal.returns-in-Err-clause-others
+returns-in-Err-clause-others g c = λ task is. spares_all (g.H.Host.stores c.args.host.now) (warehouse_of task)
+
+pub returns-in-Err-clause-shut : goal.returns-in-Err-clause-shut
+returns-in-Err-clause-shut g c = λ task is.
+    let prints : Told → Type 0 = λ told. Prints (g.W.Write.contents c.args.out.now) (g.W.Write.contents c.print.new.out) c.code.result (printed told) in
+    shut_all (g.H.Host.shut c.args.host.now) (warehouse_of task) (λ file. PrintsShut (c.args.host.now ≡ c.args.host.now) (IsNoFileOr file (IsToldBefore (g.H.Host.holds c.args.host.now) task)) prints)
+    (λ file. (refl, (Err c.in-Err.field-0, tt, rw (← c.code.ensures) at c.print.ensures)))
 
 pub returns-in-Err-clause-declines : goal.returns-in-Err-clause-declines
 returns-in-Err-clause-declines g c = λ is. (refl, inr (rw (← c.code.ensures) at c.print.ensures))

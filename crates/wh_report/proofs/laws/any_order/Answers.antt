@@ -1,4 +1,4 @@
-use Rattle.wh_report.proofs.Orders.{any_order}
+use Rattle.wh_report.proofs.Summaries.{any_order}
 use Rattle.wh_report.proofs.laws.any_order.Goals as goal
 
 pub returns : goal.returns

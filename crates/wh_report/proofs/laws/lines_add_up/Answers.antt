@@ -1,4 +1,4 @@
-use Rattle.wh_report.proofs.AddedLines.{lines_add_up}
+use Rattle.wh_report.proofs.Reports.{lines_add_up}
 use Rattle.wh_report.proofs.laws.lines_add_up.Goals as goal
 
 pub returns : goal.returns

@@ -1,4 +1,4 @@
-use Rattle.wh_report.proofs.Lines.{lookup_by_text}
+use Rattle.wh_report.proofs.TextMaps.{lookup_by_text}
 use Rattle.wh_report.proofs.summary.totals_under.Goals as goal
 
 pub returns : goal.returns

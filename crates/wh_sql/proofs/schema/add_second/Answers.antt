@@ -10,9 +10,9 @@ pub returns-clause-made : goal.returns-clause-made
 returns-clause-made g c clean before t first at =
     let old = state g.S.Store c.args.conn.now in
     on_ok_weaker c.create_all.result (added_all before t old (state g.S.Store c.create_all.new.conn) first at)
-    (c.create_all.ensures.made clean before 25 old.now.trees (schema_in One) (schema_in Two) makes_second (adding_none before t old first at))
+    (c.create_all.ensures.made clean before 22 old.now.trees (schema_in One) (schema_in Two) makes_second (adding_none before t old first at))
 
 pub returns-clause-left : goal.returns-clause-left
 returns-clause-left g c clean before t first at =
     let old = state g.S.Store c.args.conn.now in
-    c.create_all.ensures.left clean before 25 old.now.trees (schema_in One) (schema_in Two) makes_second (adding_none before t old first at)
+    c.create_all.ensures.left clean before 22 old.now.trees (schema_in One) (schema_in Two) makes_second (adding_none before t old first at)

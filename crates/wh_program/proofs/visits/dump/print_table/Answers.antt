@@ -1,8 +1,9 @@
 use Rattle.std.proofs.Common.{inl, refl, sym, ap, ◌∙◌, Ok, Err}
+use Rattle.std.specs.List.{concat}
 use Rattle.wh_rows.specs.Names.{is_there}
 use Rattle.wh_engine.specs.declared.session.Session.{Session}
 use Rattle.wh_program.specs.Answer.{status_code, done}
-use Rattle.wh_report.specs.Dump.{lines_of_table, text_of_table}
+use Rattle.wh_report.specs.Dump.{lines_of_table}
 use Rattle.wh_report.specs.Output.{of_warehouse}
 use Rattle.wh_store.specs.Reads.{state_of}
 use Rattle.wh_program.proofs.ReadingLemmas.{left, stopped-dump}
@@ -12,7 +13,7 @@ pub returns-in-Ok-clause-dumped : goal.returns-in-Ok-clause-dumped
 returns-in-Ok-clause-dumped g c = λ clean limits commands ready.
     let at = ready.rests in
     let stays = left limits commands (Ok tt) c.dump.new.engine.session (state_of g.S.Store c.dump.new.engine.tables) (c.in-Ok.ensures.reads.serves clean limits commands ready) in
-    let text = text_of_table c.args.table at.tables in
+    let text = concat (lines_of_table c.args.table at.tables) in
     (stays.0, (Ok (done text), record { tables = at.tables; are = at.are; read = Ok tt; leaves = stays.1; tells = refl }, inl (record { status = refl; text = c.in-Ok.ensures.out clean at.tables (ap (is_there c.args.table) (at.are.format ∙ sym (ap (λ (s : Session). s.format) ready.session_is))) at.rests })), stays.2)
 
 pub returns-in-Err-clause-dumped : goal.returns-in-Err-clause-dumped

@@ -2,7 +2,7 @@ use Rattle.std.proofs.Common.{◌∙◌, ap, sym}
 use Rattle.wh_engine.specs.declared.session.Session.{Session}
 use Rattle.wh_store.specs.Reads.{state_of}
 use Rattle.wh_program.specs.Readings.{asked_under}
-use Rattle.wh_program.specs.Request.{report_words}
+use Rattle.wh_words.specs.Request.{report_words}
 use Rattle.wh_program.proofs.ReadingLemmas.{given-reads, reported, not_asked, not_read}
 use Rattle.wh_program.proofs.visits.report.asked_answer.Goals as goal
 

@@ -1,6 +1,6 @@
 use Rattle.std.proofs.Common.{◌≡◌, ◌∙◌, refl, ap, subst, None, Ok}
 use Rattle.std.specs.Prelude.{IfOk}
-use Rattle.wh_report.specs.Words.{mode_of_word}
+use Rattle.wh_batch.specs.Mode.{mode_of_word}
 use Rattle.wh_program.specs.ReportLists.{answer_in}
 use Rattle.wh_program.proofs.visits.reports.listed_answer.Goals as goal
 

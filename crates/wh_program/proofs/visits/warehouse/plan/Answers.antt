@@ -1,10 +1,15 @@
 use Rattle.wh_program.specs.Inputs.{as_input}
-use Rattle.wh_program.specs.Warehouse.{Plans}
-use Rattle.wh_program.proofs.WarehouseLemmas.{answered_with}
+use Rattle.wh_program.specs.Warehouse.{Plans, LacksFile}
+use Rattle.wh_program.proofs.WarehouseLemmas.{answered_with, shut_or}
+use Rattle.std.proofs.Common.{◌≡◌}
 use Rattle.wh_program.proofs.visits.warehouse.plan.Goals as goal
 
-pub returns : goal.returns
-returns g c = λ content stood.
+pub returns-clause-answers : goal.returns-clause-answers
+returns-clause-answers g c = λ content stood.
     let sent = rw c.in-Some.is at c.in_ok-command.ensures in
     answered_with (as_input c.args.kind (g.H.Host.holds c.args.host.now)) (g.H.Host.refuses c.args.host.now) (g.H.Host.stores c.work_on.new.host c.args.file.now) content c.args.file.now c.args.path.now
-    sent.0 sent.1 (Plans c.args.kind c.args.id.now) c.work_on.result (rw sent.2 at (c.work_on.ensures content stood))
+    sent.0 sent.1 (Plans c.args.kind c.args.id.now) c.work_on.result (rw sent.2 at (c.work_on.ensures.answers content stood))
+
+pub returns-clause-shut : goal.returns-clause-shut
+returns-clause-shut g c = λ shut.
+    shut_or (c.work_on.new.host ≡ c.args.host.now) c.args.file.now (LacksFile (as_input c.args.kind (g.H.Host.holds c.args.host.now)) c.args.path.now) c.work_on.result (c.work_on.ensures.shut shut)

@@ -20,8 +20,8 @@ returns-in-Ok g c = rw c.close.ensures (λ clean content at.
 
 pub returns-in-Err : goal.returns-in-Err
 returns-in-Err g c = λ clean content at.
-    unchecked content c.opening_answer.result c.in-Err.fault (state g.T.Store c.args.connection) (state g.T.Store c.in-Err.connection)
+    unchecked content c.opening_answer-answer.result c.in-Err.fault (state g.T.Store c.args.connection) (state g.T.Store c.in-Err.connection)
     (c.in-Err.ensures.refused clean)
     (λ rests. let e = c.in-Err.ensures.missing rests.autocommit (rw rests.now.schema none_there) in search rules)
     (c.in-Err.ensures.fault_stored clean)
-    c.opening_answer.ensures at
+    c.opening_answer-answer.ensures at

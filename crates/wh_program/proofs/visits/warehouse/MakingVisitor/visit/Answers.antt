@@ -17,7 +17,7 @@ returns-in-Ok-init g c = rw c.close.ensures (λ clean content at. rw c.deref.ens
 
 pub returns : goal.returns
 returns g c = λ clean content at. rw c.deref.ensures.value at
-    (unmade content c.deref.result.now c.making_answer.result c.in-Err.fault c.greatest.result
+    (unmade content c.deref.result.now c.making_answer-answer.result c.in-Err.fault c.greatest.result
     (state g.T.Store c.args.connection) (state g.T.Store c.in-Err.connection)
     c.greatest.ensures c.in-Err.ensures.refused (λ w rests. rw (c.in-Err.ensures.same w) rests) (c.in-Err.ensures.left clean)
-    (λ taken what stood. rw (c.in-Err.ensures.kept taken) stood) (printed_in longest_line c.in-Ok.room c.making_answer.result (making_answer c.in-Err.fault) c.in-Ok.ensures c.making_answer.ensures) at)
+    (λ taken what stood. rw (c.in-Err.ensures.kept taken) stood) (printed_in longest_line c.in-Ok.room c.making_answer-answer.result (making_answer c.in-Err.fault) c.in-Ok.ensures c.making_answer-answer.ensures) at)

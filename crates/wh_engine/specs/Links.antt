@@ -1,0 +1,19 @@
+-- What a count of all facts by all of their keys says of a tally.
+use Rattle.std.specs.Prelude.{List, Result, IfOk, IfErr}
+use Rattle.std.specs.FinMap.{values}
+use Rattle.sqlite_trees.specs.declared.store.Store.{Ghosts}
+use Rattle.wh_policy.specs.declared.format.Format.{Format}
+use Rattle.wh_rows.specs.Facts.{facts_in, facts_table}
+use Rattle.wh_rows.specs.declared.linked_sale.LinkedSale.{LinkedSale}
+use Rattle.wh_sql.specs.LinkedTally.{HasCountedLinks, HasCountedStoredLinks}
+use Rattle.wh_store.specs.declared.tables.Tables.{Tables}
+use Rattle.wh_engine.specs.Faults.{NamesTable}
+use Rattle.wh_engine.specs.Scanned.{WhenAtRest, WhenStored}
+use Rattle.wh_engine.specs.declared.fault.Fault.{Fault}
+
+-- It counts each fact of a format once: of tables at rest, and so of the accepted commands; of stored rows of any origin, by the columns that it reads. A row out of its type is reported as one of this table.
+-- `Counts` says what a tally comes to by sales.
+pub record TalliesLinks {S C : Type 0} (g : Ghosts S) (Counts : C → List LinkedSale → C → Type 0) (format : Format) (before after : C) (old new : Tables S) (result : Result (Unit {0}) Fault) : Type 0 where
+  pub counted : WhenAtRest g old new (λ t. IfOk result (λ _. HasCountedLinks Counts before after (values (facts_in format t))))
+  pub stored : WhenStored g old new (λ stored. IfOk result (λ _. HasCountedStoredLinks Counts before after (stored.rows (facts_table format))))
+  pub named : WhenStored g old new (λ _. IfErr result (NamesTable (facts_table format)))

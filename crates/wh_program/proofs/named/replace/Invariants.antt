@@ -1,7 +1,0 @@
-use Rattle.std.proofs.Common.{◌≡◌, None, take}
-use Rattle.wh_program.specs.Named.{named}
-use Rattle.wh_program.proofs.named.replace.Given as goal
-
--- nothing is put yet, and no item so far has the name
-abbrev pub invariant-loop-item : goal.invariant-loop-item
-invariant-loop-item g l = (l.all ≡ l.initial.all) × (named (take l.item-index l.initial.all) l.initial.name ≡ None)

@@ -1,0 +1,34 @@
+use Rattle.std.proofs.Common.{◌∙◌, ap, sym}
+use Rattle.wh_engine.specs.declared.session.Session.{Session}
+use Rattle.wh_query.proofs.ReadQueries.{queries_have_readings}
+use Rattle.wh_store.specs.Reads.{state_of}
+use Rattle.wh_program.specs.Readings.{queried_under}
+use Rattle.wh_words.specs.Request.{query_words}
+use Rattle.wh_program.proofs.ReadingLemmas.{queried, no_query, not_read}
+use Rattle.wh_program.proofs.visits.query.query_answer.Goals as goal
+
+pub query-requires : goal.query-requires
+query-requires g c =
+    let words = query_words c.args.asked.now in
+    queries_have_readings c.args.engine.now.session.policy words.columns words.conditions words.from words.to c.in-Ok.read (rw (c.policy-policy.ensures, c.as_slice-columns.ensures.value, c.as_slice-conditions.ensures.value, c.as_bytes-from.ensures.value, c.as_bytes-to.ensures.value) at c.in-Ok.ensures)
+
+pub returns-in-Ok-clause-answered : goal.returns-in-Ok-clause-answered
+returns-in-Ok-clause-answered g c = λ clean limits commands ready.
+    let words = query_words c.args.asked.now in
+    let is = rw (c.policy-policy.ensures, c.as_slice-columns.ensures.value, c.as_slice-conditions.ensures.value, c.as_bytes-from.ensures.value, c.as_bytes-to.ensures.value) at c.in-Ok.ensures in
+    let under = ap (λ (s : Session). queried_under s.policy words) ready.session_is in
+    queried words limits commands c.report_answer.result c.query.new.engine.session (state_of g.S.Store c.query.new.engine.tables)
+    c.in-Ok.read c.query.result (sym under ∙ is) (c.query.ensures.answered clean limits commands ready) c.report_answer.ensures
+    (c.query.ensures.reads.serves clean limits commands ready)
+
+pub returns-in-Err-Fault-clause-answered : goal.returns-in-Err-Fault-clause-answered
+returns-in-Err-Fault-clause-answered g c = λ clean limits commands ready.
+    let words = query_words c.args.asked.now in
+    let is = rw (c.in-Err-Fault.field-0-is, c.policy-policy.ensures, c.as_slice-columns.ensures.value, c.as_slice-conditions.ensures.value, c.as_bytes-from.ensures.value, c.as_bytes-to.ensures.value) at c.in-Err-Fault.ensures in
+    let under = ap (λ (s : Session). queried_under s.policy words) ready.session_is in
+    no_query words limits commands c.request_answer.result c.args.engine.now.session (state_of g.S.Store c.args.engine.now.tables)
+    c.in-Err-Fault.fault (sym under ∙ is) c.request_answer.ensures ready
+
+pub returns-in-Err-Memory-clause-answered : goal.returns-in-Err-Memory-clause-answered
+returns-in-Err-Memory-clause-answered g c = λ clean limits commands ready.
+    not_read _ _ limits commands c.args.engine.now.session (state_of g.S.Store c.args.engine.now.tables) ready

@@ -1,0 +1,11 @@
+pub mod Words
+pub mod Leading
+pub mod Holding
+pub mod Texts
+pub mod QueryLaws
+pub mod Counting
+pub mod Read
+pub mod History
+pub mod WorkedQueries
+pub mod WorkedWords
+pub mod ReadQueries

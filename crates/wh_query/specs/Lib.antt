@@ -1,0 +1,10 @@
+pub mod Asked
+pub mod Words
+pub mod Reading
+pub mod Found
+pub mod Answer
+pub mod Slice
+pub mod Led
+pub mod Tallied
+pub mod Answered
+pub mod Laws

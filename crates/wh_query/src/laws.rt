@@ -1,0 +1,44 @@
+//! What holds of every query. The laws speak of the definitions alone and do nothing.
+
+ghost use Rattle.wh_query.specs.Laws.{ReportsHaveLines, ReportsAreQueries, LinesAddUp, SumsAgree, SlicesAreLines, AnyOrder, LinesRise, QueriesHaveReadings, NoModeIsNeeded, ReadAsRequests};
+
+/// What a report sums are lines, by labels that are texts. By one column and without conditions the lines of a query are those of
+/// the report by this column.
+pub fn reports_are_queries()
+    ensures lines { ReportsHaveLines }
+    ensures queries { ReportsAreQueries }
+{}
+
+/// The lines add up to what the sales of the slice come to, and so to the same for any columns.
+pub fn lines_add_up()
+    ensures up { LinesAddUp }
+    ensures agree { SumsAgree }
+{}
+
+/// A slice by a label has just those lines of the query by the label's column, too, that begin with the label.
+pub fn slices_are_lines()
+    ensures { SlicesAreLines }
+{}
+
+/// The order of the sales doesn't matter.
+pub fn any_order()
+    ensures { AnyOrder }
+{}
+
+/// The tuples of labels come once each, in order by bytes, column by column.
+pub fn lines_rise()
+    ensures { LinesRise }
+{}
+
+/// A query that is read can be asked: each of its columns has a reading under the policy, also of a condition. No attribute of the
+/// policy needs a mode for that.
+pub fn queries_have_readings()
+    ensures reads { QueriesHaveReadings }
+    ensures modes { NoModeIsNeeded }
+{}
+
+/// The words for one column alone are refused exactly where the request of the report by it is, for the same fault; else they make
+/// the query by that column.
+pub fn read_as_requests()
+    ensures { ReadAsRequests }
+{}

@@ -1,0 +1,16 @@
+//! Queries: what was sold by several attributes at once, for a slice of the sales.
+#![tactic(auto)]
+
+mod answer;
+mod asked;
+mod fault;
+pub mod laws;
+mod led;
+mod lines;
+mod reading;
+mod slice;
+mod sums;
+mod text;
+
+pub use answer::{query, write};
+pub use asked::{Column, Condition, Query};

@@ -1,0 +1,291 @@
+//! Queries of a warehouse's file, and the records that carry its members to another.
+
+/// After the files of `reports`.
+pub const QUERIES: &str = r#"
+file qp.csv
+> id,day,description,brand,category,department,launched,supplier
+> P1,2024-01-01,Cola,Acme,Drinks,Grocery,2019,North
+> P1,2024-02-01,Cola,Bolt,Drinks,Grocery,2019,North
+> P2,2024-01-01,"Tea, green",Leaf,Drinks,Grocery,2020,South
+file qs.csv
+> id,day,city
+> S1,2024-01-01,Bern
+> S2,2024-01-01,Basel
+> S2,2024-02-15,Bern
+file qc.csv
+> id,day,tier,age_band,spend_band
+> C1,2024-01-01,gold,20-29,low
+file qt.csv
+> ticket,line,day,store,product,customer,quantity,amount,cost
+> T1,1,2024-01-15,S1,P1,C1,2,5.00,3.20
+> T1,2,2024-01-15,S1,P2,C1,1,4.50,2.75
+> T2,1,2024-02-10,S2,P1,,3,7.50,4.80
+> T3,1,2024-02-20,S2,P1,C1,1,2.50,1.60
+> T4,1,2024-02-20,S2,P2,C1,-1,-4.50,-2.75
+run init q policy.toml
+= accepted 1 init: 0 records, 0 placeholders
+= status 0
+run query q 2024-01-01 2024-12-31 product.brand date.month
+= product.brand:was,date.month,lines,quantity,amount,cost,margin
+= status 0
+run load q product p qp.csv
+= accepted 2 p: 3 records, 0 placeholders
+= status 0
+run load q store s qs.csv
+= accepted 3 s: 3 records, 0 placeholders
+= status 0
+run load q customer c qc.csv
+= accepted 4 c: 1 records, 0 placeholders
+= status 0
+run load q sales t qt.csv
+= accepted 5 t: 5 records, 0 placeholders
+= status 0
+
+# By two columns, the first one first.
+run query q 2024-01-01 2024-12-31 product.brand date.month
+= product.brand:was,date.month,lines,quantity,amount,cost,margin
+= Acme,2024-01,1,2,5.00,3.20,1.80
+= Bolt,2024-02,2,4,10.00,6.40,3.60
+= Leaf,2024-01,1,1,4.50,2.75,1.75
+= Leaf,2024-02,1,-1,-4.50,-2.75,-1.75
+= status 0
+run query q 2024-01-01 2024-12-31 date.month product.brand:was
+= date.month,product.brand:was,lines,quantity,amount,cost,margin
+= 2024-01,Acme,1,2,5.00,3.20,1.80
+= 2024-01,Leaf,1,1,4.50,2.75,1.75
+= 2024-02,Bolt,2,4,10.00,6.40,3.60
+= 2024-02,Leaf,1,-1,-4.50,-2.75,-1.75
+= status 0
+
+# Conditions of two columns hold both, of two of one column any does.
+run query q 2024-01-01 2024-12-31 product.brand --where store.city:was=Bern --where customer.tier=gold
+= product.brand:was,lines,quantity,amount,cost,margin
+= Acme,1,2,5.00,3.20,1.80
+= Bolt,1,1,2.50,1.60,0.90
+= Leaf,2,0,0.00,0.00,0.00
+= status 0
+run query q 2024-01-01 2024-12-31 product.description store.city --where store.city=Basel --where store.city=Bern --where product.brand=Bolt
+= product.description:was,store.city:was,lines,quantity,amount,cost,margin
+= Cola,Basel,1,3,7.50,4.80,2.70
+= Cola,Bern,1,1,2.50,1.60,0.90
+= status 0
+run query q 2024-01-01 2024-12-31 product.brand --where product.brand=Nobody
+= product.brand:was,lines,quantity,amount,cost,margin
+= status 0
+
+# A label with a comma, printed and asked for; a type without `was`; a column twice.
+run query q 2024-01-15 2024-01-15 product.description
+= product.description:was,lines,quantity,amount,cost,margin
+= Cola,1,2,5.00,3.20,1.80
+= "Tea, green",1,1,4.50,2.75,1.75
+= status 0
+run query q 2024-01-01 2024-12-31 product.brand
+> --where
+> product.description=Tea, green
+= product.brand:was,lines,quantity,amount,cost,margin
+= Leaf,2,0,0.00,0.00,0.00
+= status 0
+run query q 2024-01-15 2024-01-15 product.supplier product.supplier:is
+= product.supplier:is,product.supplier:is,lines,quantity,amount,cost,margin
+= North,North,1,2,5.00,3.20,1.80
+= South,South,1,1,4.50,2.75,1.75
+= status 0
+
+# What can't be asked for: the first column's fault, and then the first condition's.
+run query q 2024-01-01 2024-12-31 product.color
+= refused: G1 no attribute
+= status 2
+run query q 2024-01-01 2024-12-31 product.brand:is product.color
+= refused: G2 no reading, type 2 is
+= status 2
+run query q 2024-12-31 2024-01-01 product.brand
+= refused: G3 bad range
+= status 2
+run query q 2024-01-01 2024-12-31 product.brand --where product.color=red
+= refused: G1 no attribute
+= status 2
+run query nowhere 2024-01-01 2024-12-31 product.brand
+= failed: N1 not a warehouse
+= status 3
+
+# Words that are no query.
+run query q 2024-01-01 2024-12-31 product.brand:then
+= error: BY is 'product.brand:then', and none of ATTRIBUTE and ATTRIBUTE:MODE, with was, is or prior as MODE
+= status 4
+run query q 2024-01-01 2024-12-31 product.brand --where store.city
+= error: --where is 'store.city', and none of ATTRIBUTE=LABEL and ATTRIBUTE:MODE=LABEL, with was, is or prior as MODE
+= status 4
+run query q 2024-01-01 2024-12-31 a b c d e f g
+= error: BY is given more than 6 times
+= status 4
+run query q 2024-01-01 2024-12-31 a --where a=1 --where a=2 --where a=3 --where a=4 --where a=5 --where a=6 --where a=7 --where a=8 --where a=9 --where a=10 --where a=11 --where a=12 --where a=13
+= error: --where is given more than 12 times
+= status 4
+
+# In the second format, with a line that is withdrawn.
+run upgrade q u
+= accepted 6 u: 0 records, 0 placeholders
+= status 0
+file qv.csv
+> ticket,line
+> T2,1
+run load q void v qv.csv
+= accepted 7 v: 1 records, 0 placeholders
+= status 0
+run query q 2024-01-01 2024-12-31 store.city
+= store.city:was,lines,quantity,amount,cost,margin
+= Bern,4,3,7.50,4.80,2.70
+= status 0
+"#;
+
+/// After those.
+pub const RECORDS: &str = r#"
+run records q store
+= id,day,city
+= S1,2024-01-01,Bern
+= S2,2024-01-01,Basel
+= S2,2024-02-15,Bern
+= status 0
+run records q store 2
+= id,day,city
+= S2,2024-02-15,Bern
+= status 0
+run records q store 3
+= id,day,city
+= status 0
+run records q store 999999999
+= id,day,city
+= status 0
+
+# A record of an earlier day says another year than the first that was accepted: that goes before the dated ones, in a batch of its own.
+file ql.csv
+> id,day,description,brand,category,department,launched,supplier
+> P2,2023-06-01,Tea,Leaf,Drinks,Grocery,2018,South
+run load q product l ql.csv
+= accepted 8 l: 1 records, 0 placeholders
+= status 0
+run records q product
+= id,day,description,brand,category,department,launched,supplier
+= P2,2023-06-01,"Tea, green",Leaf,Drinks,Grocery,2020,South
+= status 0
+run records q product 1
+= id,day,description,brand,category,department,launched,supplier
+= P1,2024-01-01,Cola,Acme,Drinks,Grocery,2019,North
+= P1,2024-02-01,Cola,Bolt,Drinks,Grocery,2019,North
+= P2,2023-06-01,Tea,Leaf,Drinks,Grocery,2018,South
+= P2,2024-01-01,"Tea, green",Leaf,Drinks,Grocery,2020,South
+= status 0
+
+run records q stores
+= error: DIMENSION is 'stores', and none of product, store and customer
+= status 4
+run records q store x
+= error: FROM is 'x', and none of the numbers 0 to 999999999
+= status 4
+run records q store 1000000000
+= error: FROM is '1000000000', and none of the numbers 0 to 999999999
+= status 4
+run records nowhere store
+= failed: N1 not a warehouse
+= status 3
+"#;
+
+/// Worked by hand: a cola becomes another brand's in February, and one of two cities has to be quoted. Then two lines are withdrawn in format 2.
+pub const WORKED: &str = r#"
+policy flat.toml
+file k-st.csv
+> id,day,city
+> S1,2023-01-01,"Bern, Gare"
+> S2,2023-01-01,Genf
+file k-p1.csv
+> id,day,description,brand,category,department,launched,supplier
+> P1,2024-01-10,Drink,Bolt,Drinks,Grocery,2019,North
+> P9,2024-01-10,Drink,Leaf,Drinks,Grocery,2019,North
+file k-p2.csv
+> id,day,description,brand,category,department,launched,supplier
+> P1,2024-02-01,Drink,Acme,Drinks,Grocery,2019,North
+file k-s1.csv
+> ticket,line,day,store,product,customer,quantity,amount,cost
+> T1,1,2024-02-05,S1,P1,,2,5.00,3.20
+> T2,1,2024-01-15,S1,P1,,1,2.50,1.60
+> T3,1,2024-02-10,S2,P1,,3,7.50,4.80
+> T4,1,2024-02-20,S1,P9,,1,10.00,7.00
+> T5,1,2024-02-29,S1,P1,,4,10.00,6.40
+run init k flat.toml
+= accepted 1 init: 0 records, 0 placeholders
+= status 0
+run load k store st k-st.csv
+= accepted 2 st: 2 records, 0 placeholders
+= status 0
+run load k product p1 k-p1.csv
+= accepted 3 p1: 2 records, 0 placeholders
+= status 0
+run load k product p2 k-p2.csv
+= accepted 4 p2: 1 records, 0 placeholders
+= status 0
+run load k sales s1 k-s1.csv
+= accepted 5 s1: 5 records, 0 placeholders
+= status 0
+
+# brand by month of one shop alone
+run query k 2024-01-01 2024-12-31 product.brand:was date.month
+> --where
+> store.city:was=Bern, Gare
+= product.brand:was,date.month,lines,quantity,amount,cost,margin
+= Acme,2024-02,2,6,15.00,9.60,5.40
+= Bolt,2024-01,1,1,2.50,1.60,0.90
+= Leaf,2024-02,1,1,10.00,7.00,3.00
+= status 0
+# two labels of one column, and one of another
+run query k 2024-01-01 2024-12-31 store.city:was --where store.city:was=Genf --where product.brand:was=Acme
+> --where
+> store.city:was=Bern, Gare
+= store.city:was,lines,quantity,amount,cost,margin
+= "Bern, Gare",2,6,15.00,9.60,5.40
+= Genf,1,3,7.50,4.80,2.70
+= status 0
+# no sale is in the slice
+run query k 2024-01-01 2024-12-31 product.brand:was --where store.city:was=Genf --where product.brand:was=Leaf
+= product.brand:was,lines,quantity,amount,cost,margin
+= status 0
+run check k
+= clean
+= status 0
+
+# In format 2 the lines that stand count, and no discount is taken off.
+file k-s2.csv
+> ticket,line,day,store,product,customer,quantity,amount,cost,discount
+> T6,1,2024-02-10,S2,P9,,2,18.00,14.00,2.00
+> T6,2,2024-03-01,S1,P1,,1,2.50,1.60,0.50
+file k-v1.csv
+> ticket,line
+> T1,1
+> T6,2
+run upgrade k u1
+= accepted 6 u1: 0 records, 0 placeholders
+= status 0
+run load k sales s2 k-s2.csv
+= accepted 7 s2: 2 records, 0 placeholders
+= status 0
+run load k void v1 k-v1.csv
+= accepted 8 v1: 2 records, 0 placeholders
+= status 0
+run query k 2024-01-01 2024-12-31 product.brand:was date.month
+> --where
+> store.city:was=Bern, Gare
+= product.brand:was,date.month,lines,quantity,amount,cost,margin
+= Acme,2024-02,1,4,10.00,6.40,3.60
+= Bolt,2024-01,1,1,2.50,1.60,0.90
+= Leaf,2024-02,1,1,10.00,7.00,3.00
+= status 0
+run query k 2024-02-01 2024-03-31 store.city:was product.brand:was
+= store.city:was,product.brand:was,lines,quantity,amount,cost,margin
+= "Bern, Gare",Acme,1,4,10.00,6.40,3.60
+= "Bern, Gare",Leaf,1,1,10.00,7.00,3.00
+= Genf,Acme,1,3,7.50,4.80,2.70
+= Genf,Leaf,1,2,18.00,14.00,4.00
+= status 0
+run check k
+= clean
+= status 0
+"#;

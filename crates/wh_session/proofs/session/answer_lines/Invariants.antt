@@ -1,0 +1,7 @@
+use Rattle.std.proofs.Common.{◌≡◌, List, ℕ, Some}
+use Rattle.wh_session.proofs.SessionLemmas.{IsSoFar}
+use Rattle.wh_session.proofs.session.answer_lines.Given as goal
+
+abbrev pub invariant-lines : goal.invariant-lines
+invariant-lines g l = (lines : List (List ℕ)) → g.C.Console.hears l.fn.console ≡ Some lines
+    → IsSoFar g.H.Host.holds g.H.Host.refuses g.H.Host.stores l.file lines l.fn.host l.host (g.W.Write.contents l.fn.out) (g.W.Write.contents l.out) l.greatest (g.C.Console.hears l.console)

@@ -1,0 +1,3 @@
+pub mod Line
+pub mod Session
+pub mod Laws

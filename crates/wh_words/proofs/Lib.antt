@@ -1,0 +1,10 @@
+pub mod Operands
+pub mod Reading
+pub mod Program
+pub mod CommandWords
+pub mod QueryCommand
+pub mod CommandLineLemmas
+pub mod WordLemmas
+pub mod CommandFaults
+pub mod PlainWords
+pub mod TableNames

@@ -1,0 +1,6 @@
+pub mod WrongWord
+pub mod CommandLine
+pub mod Task
+pub mod Given
+pub mod Request
+pub mod Laws

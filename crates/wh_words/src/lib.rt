@@ -1,0 +1,13 @@
+//! The words of the program: what each asks for, and their help.
+#![tactic(auto)]
+
+mod app;
+mod command;
+pub mod laws;
+mod query;
+mod wrong_word;
+
+pub use app::program_app;
+pub use command::{AskedReport, Request, Task, parse};
+pub use query::AskedQuery;
+pub use wrong_word::{MODES, wrong_word_line};
