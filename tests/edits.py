@@ -3,6 +3,8 @@
 
 Usage: tests/edits.py [--copies] CRATE..     (as tests/edits.py wh_day wh_policy)
        tests/edits.py --rules [CRATE..]
+       tests/edits.py --by-tests [CRATE..]
+       tests/edits.py --dry-run [--by-tests] [CRATE..]
 
 A function is proved from its own body and from the contracts of what it calls. So an edit is made in a copy of its function,
 which stands beside it under a name of its own, with the same contract, over the same callees, and with the same answers, where
@@ -25,6 +27,12 @@ the edits, and the status is 1 where one is bad or not refused.
 It is the gate's, in which nothing is kept but the libraries: so it checks the copies alone, in one check with their copies without
 an edit, where each of these has to be proved. All other functions have a body that says nothing, and a hole in place of the proof, since
 the gate has proved them before: so of what the copies call it takes the contract.
+
+--by-tests tries the edits of a crate's refused-by-tests/, which meet every contract: the test that an edit's line `test:` names has to fail. Each is made in
+its place, in a copy of the repository of its own, in which the crate of that test is tried without proofs: 8 GB of memory and some minutes for each. What
+fails without an edit, too, would say nothing, so run it beside `tests/all --quick`.
+
+--dry-run tries nothing. It takes seconds, and names the edits that don't fit their file, and those by tests whose test isn't there.
 """
 
 import argparse
@@ -48,6 +56,7 @@ PARAMETER = re.compile(r"[<,] *(\w+) *(?=[:,>])")
 WORD = re.compile(r"(?<!')\b[A-Za-z]\w*")
 TRAIT = re.compile(r"(?:pub(?:\([^)]*\))? )?trait (\w+)")
 ANSWER = re.compile(r"^fn (\S+): (.*)$", re.M)
+TESTED = re.compile(r"^test (\S+) \.\.\. (.*)\n(?: +(.*))?", re.M)
 ERROR = re.compile(r"^(?:\./)?(src/\S+?):(\d+):\d+: error", re.M)
 ENSURES = re.compile(r" *ensures(?: (\w+))? ?\{")
 CLAUSE = re.compile(r" +(?:ensures|requires|ghost|//)")
@@ -521,6 +530,82 @@ def try_rules(crate):
     return len(edits), missed
 
 
+def crates_refused_by_tests():
+    """The names of the crates that have edits which a test refuses."""
+    return sorted({it.parts[-3] for it in ROOT.glob("crates/*/refused-by-tests/*.edit")})
+
+
+def crate_of_test(name):
+    """The crate that has a test of this name, its module's and its function's; None where none has."""
+    *module, function = name.split("::")
+    here = re.compile(rf"#\[test\]\n(?:pub )?fn {function}\(")
+    return next((it.parts[it.parts.index("src") - 1] for it in ROOT.glob(f"crates/*/src/{'/'.join(module)}.rt") if here.search(it.read_text())), None)
+
+
+class Verdict(NamedTuple):
+    """What a test says of an edit, and why; nothing where it wasn't run."""
+
+    said: str
+    why: str
+
+
+def verdict_of_test(room, path, edit, test):
+    """What a test says of an edit that is made in its place, in a copy of the repository that is made for it."""
+    copy_to(room, [])
+    source = room.joinpath(*path.relative_to(ROOT).parts[:2], edit.file)
+    lines = source.read_text().split("\n")
+    source.write_text("\n".join(lines[: edit.first] + edit.lines + lines[edit.past :]))
+    how = {"stdin": subprocess.DEVNULL, "stdout": subprocess.PIPE, "stderr": subprocess.STDOUT}
+    tried = subprocess.run(["rt", "try", "--test"], cwd=room / "crates" / crate_of_test(test), text=True, errors="replace", **how).stdout
+    shutil.rmtree(room)
+    return next((Verdict(said, why) for name, said, why in TESTED.findall(tried) if name == test), Verdict("", why_bad(Said(tried, {}))))
+
+
+def test_of(path):
+    """The name of the test that has to refuse an edit; none where the edit names none."""
+    named = re.search(r"^test: (\S+)", path.read_text(), re.M)
+    return named[1] if named else ""
+
+
+def why_misfit(path):
+    """Why an edit can't be tried as the files are now; nothing where it can."""
+    if not read(path.parents[1], path):
+        return "a text of it isn't once in its file"
+    is_by_test = path.parent.name == "refused-by-tests"
+    return "it names no test that is there" if is_by_test and not crate_of_test(test_of(path)) else ""
+
+
+def edits_in(folders, names):
+    """The paths of the edits that stand in these folders of crates."""
+    return [it for name in names for folder in folders for it in sorted(ROOT.glob(f"crates/{name}/{folder}/*.edit"))]
+
+
+def look_at(paths):
+    """Prints which edits can't be tried, and gives how many there are and how many can't."""
+    misfits = [(it, why) for it in paths if (why := why_misfit(it))]
+    for path, why in misfits:
+        print(f"BAD EDIT: {path.relative_to(ROOT)}: {why}", flush=True)
+    return len(paths), len(misfits)
+
+
+def try_by_test(path, room):
+    """Whether an edit is refused by the test that it names. It prints what it finds."""
+    edit, test = read(path.parents[1], path), test_of(path)
+    verdict = verdict_of_test(room / "-".join(path.parts[-3:]), path, edit, test)
+    told = {"": "BAD EDIT", "ok": "NOT REFUSED"}.get(verdict.said, "refused")
+    print(f"{told}: {path.relative_to(ROOT)}: {test} {verdict.said or 'was not run'} {verdict.why}".rstrip() + f", {seconds():.0f} s so far", flush=True)
+    return told == "refused"
+
+
+def try_by_tests(names):
+    """Tries the edits that tests refuse of crates that are named, and gives how many there are and how many were missed."""
+    paths = edits_in(["refused-by-tests"], names)
+    edits, misfits = look_at(paths)
+    with tempfile.TemporaryDirectory(prefix="wh-edits-") as room, ThreadPoolExecutor(lanes(8)) as side_by_side:
+        refused = [*side_by_side.map(lambda it: try_by_test(it, Path(room)), [it for it in paths if not why_misfit(it)])]
+    return edits, misfits + refused.count(False)
+
+
 def link(old, new):
     """Copies a file of a library, which nothing writes to once it is made, by a link where that can be."""
     try:
@@ -547,26 +632,37 @@ def copy_to(room, names):
     shutil.copytree(ROOT, room, symlinks=True, ignore=left_out, copy_function=copied)
 
 
-def lanes():
-    """How many crates to try side by side: one a processor that this process may use, with 5 GB each."""
+def lanes(gigabytes):
+    """How many to try side by side: one a processor that this process may use, with so much memory each."""
     with open("/proc/meminfo") as file:
         free = int(re.search(r"MemAvailable: *(\d+)", file.read())[1])
-    return max(1, min(len(os.sched_getaffinity(0)), free // 5_000_000))
+    return max(1, min(len(os.sched_getaffinity(0)), free // (gigabytes * 1_000_000)))
 
 
-def main():
-    words = argparse.ArgumentParser(description="Tries wrong bodies, each of which the prover has to refuse.")
-    words.add_argument("--copies", action="store_true", help="try copies of the functions without an edit, which have to be proved")
-    words.add_argument("--rules", action="store_true", help="those that the rules of the warehouse name, of all crates where none is named")
-    words.add_argument("crate", nargs="*")
-    given = words.parse_args()
-    names = given.crate or (crates_with_rules() if given.rules else words.error("no crate is named"))
-    with tempfile.TemporaryDirectory(prefix="wh-edits-") as room, ThreadPoolExecutor(lanes()) as side_by_side:
+def try_proofs(names, given):
+    """Tries the edits that the prover refuses of crates that are named, or copies without an edit, and gives how many there are and how many were missed."""
+    with tempfile.TemporaryDirectory(prefix="wh-edits-") as room, ThreadPoolExecutor(lanes(5)) as side_by_side:
         copy_to(Path(room, "wh"), names)
         tried = try_copies if given.copies else try_edits
         crates = [Path(room, "wh", "crates", name) for name in names]
         counts = [*side_by_side.map(try_rules if given.rules else lambda it: try_crate(it, tried), crates)]
-    edits, missed = (sum(it) for it in zip(*counts))
+    return (sum(it) for it in zip(*counts))
+
+
+def main():
+    words = argparse.ArgumentParser(description="Tries wrong bodies, each of which the prover or a test has to refuse.")
+    words.add_argument("--copies", action="store_true", help="try copies of the functions without an edit, which have to be proved")
+    words.add_argument("--rules", action="store_true", help="those that the rules of the warehouse name, of all crates where none is named")
+    words.add_argument("--by-tests", action="store_true", help="those that tests refuse, of all crates where none is named")
+    words.add_argument("--dry-run", action="store_true", help="only see whether they fit, those of all crates where none is named")
+    words.add_argument("crate", nargs="*")
+    given = words.parse_args()
+    if given.dry_run:
+        edits, missed = look_at(edits_in(["refused-by-tests"] if given.by_tests else ["edits", "refused-by-tests"], given.crate or ["*"]))
+    elif given.by_tests:
+        edits, missed = try_by_tests(given.crate or crates_refused_by_tests())
+    else:
+        edits, missed = try_proofs(given.crate or (crates_with_rules() if given.rules else words.error("no crate is named")), given)
     if given.copies:
         print(f"{missed} copies not proved, {seconds():.0f} s of processor time")
     else:

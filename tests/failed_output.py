@@ -4,10 +4,11 @@ crates/wh); a C compiler makes the library tests/lib/fail_write.c that is loaded
 
 usage: failed_output.py [PROGRAM]
 
-A report, a dump of the commands, a plan and a delivery, each as it writes and in pieces of some bytes; the write fails since nobody reads, since there is
+A report, a query, records, a dump of the commands, a plan and a delivery, each as it writes and in pieces of some bytes; the write fails since nobody reads, since there is
 no room, or takes nothing; it alone, or all after it too. What went out has to be a beginning of what is printed else, with the line `failed: G4 write`
 behind it where that can be written, and the status 3. The file holds what it held; after a delivery those of its commands whose lines went out whole, and the
-next one. At last the same into a pipe that is closed and into /dev/full.
+next one. The same of a session, which goes on behind an answer that was cut off, and ends where the line of a status was. At last all but the session into a
+pipe that is closed and into /dev/full.
 """
 
 import errno
@@ -92,6 +93,48 @@ def fail_each(words, whole, part):
     print(f"{words}: {runs} runs in which a write {f'of at most {part} bytes ' if part else ''}fails", flush=True)
 
 
+def answers_of(whole):
+    """The answers of a session, each with the line of its status."""
+    answers = [b""]
+    for line in whole.splitlines(True):
+        answers[-1] += line
+        if line.startswith(b"status "):
+            answers.append(b"")
+    return answers[:-1]
+
+
+def session_texts(whole):
+    """What a session may print where one write fails: a beginning of an answer, its line, and the others; or all up to a beginning of the line of a status."""
+    answers = answers_of(whole)
+    for place, answer in enumerate(answers):
+        before, after = b"".join(answers[:place]), b"".join(answers[place + 1 :])
+        text = answer[: answer.rindex(b"status ")]
+        yield from (before + text[:kept] + LINE + b"status 3\n" + after for kept in range(len(text)))
+        yield from (before + answer[:kept] for kept in range(len(text), len(answer)))
+
+
+def fail_session(lines):
+    """Makes each write of a session fail, in each way."""
+    told = "".join(f"{line}\n" for line in lines).encode()
+    whole = run(PROGRAM, folder, "session w", told)
+    count.case([] if whole.status == 0 and len(answers_of(whole.text)) == len(lines) else f"a session: {whole}")
+    allowed, before, note, runs = set(session_texts(whole.text)), rows_of(f"{folder}/w"), f"{folder}/note", 0
+    for error in (errno.EPIPE, errno.ENOSPC, 0):
+        for since in ({}, {"FAILED_SINCE": "1"}):
+            for number in range(1, 1_000):
+                if os.path.exists(note):
+                    os.remove(note)
+                failing = {"FAILED_WRITE": str(number), "FAILED_ERROR": str(error), "FAILED_PART": "0", "FAILED_NOTE": note, **since}
+                answer = run(PROGRAM, folder, "session w", told, LD_PRELOAD=f"{folder}/fail.so", **failing)
+                if not os.path.exists(note):
+                    break
+                is_cut = whole.text.startswith(answer.text) and len(answer.text) < len(whole.text) if since else answer.text in allowed
+                count.case([] if is_cut and answer.status == 3 else f"a session, write {number} fails, error {error}: {answer}")
+                runs += 1
+    count.case([] if same(rows_of(f"{folder}/w"), before) else "a session: the rows are others now")
+    print(f"a session: {runs} runs in which a write fails", flush=True)
+
+
 def unread(words, whole, is_kept):
     """A pipe that nobody reads, and a device without room."""
     read, write = os.pipe()
@@ -107,7 +150,8 @@ def unread(words, whole, is_kept):
 
 
 AGE = f"report w customer.age_band was {DAYS}"
-RUNS = [("after11", AGE, 24), ("after11", "dump w command", 64), ("after3", "plan w product p3 p3", 8), ("after3", "deliver w night", 12)]
+QUERY = f"query w {DAYS} product.category:is date.month"
+RUNS = [("after11", AGE, 24), ("after11", QUERY, 24), ("after11", "records w product", 48), ("after11", "dump w command", 64), ("after3", "plan w product p3 p3", 8), ("after3", "deliver w night", 12)]
 for file, words, part in RUNS:
     copy(f"{folder}/{file}", f"{folder}/w")
     whole = run(PROGRAM, folder, words)
@@ -118,6 +162,9 @@ for file, words, part in RUNS:
     for size in (0, part):
         fail_each(words, whole.text, size)
     unread(words, whole.text, kept_by_delivery if words.startswith("deliver ") else lambda name, text: [])
+
+copy(f"{folder}/after11", f"{folder}/w")
+fail_session(["status", AGE.replace(" w ", " "), "check", QUERY.replace(" w ", " "), "dump product"])
 
 # the last run's file is what its commands define
 copy(f"{folder}/after3", f"{folder}/w")

@@ -3,8 +3,9 @@
 # The page is run with the built program (`rt run` in crates/wh builds it; WH names another), as `wh`, in a folder of its own beside copies of
 # examples/ and tools/. In a block of code of no language a line that begins with `$ ` is a command, and the lines up to the next one, or to the end of the
 # block, are what it must print. A block of `sql` is handed to the program sqlite3, with the file shop.wh of that folder, and a block of `python`
-# to Python; either must answer the rows of the last report before it, as `label|lines|quantity|amount|cost|margin` with money in hundredths.
+# to Python; either must answer the rows of the last report or query before it, as `label|lines|quantity|amount|cost|margin` with money in hundredths.
 # A block of `postgresql` is handed to psql, with the database shop, and must answer the same rows, with money in two decimals.
+# The last `rm` that the page's text has in such quotes must take away all that is left in the end.
 
 passed=0
 failed=0
@@ -37,13 +38,21 @@ in_hundredths() {
     }'
 }
 
+# the rows of a query's text, whose labels have no quotes
+rows_of_query() {
+    printf '%s\n' "$1" | sed 1d | tr , '|' | in_hundredths
+}
+
 # Runs the command that was read, if there is one, and compares.
 run_command() {
     local told
     [ -n "$command" ] || return 0
     told=$(bash -c "$command" 2>&1 < /dev/null) || true
     compare "$ $command" "$told" "${lines%$'\n'}"
-    case "$command" in 'wh report '*) report=$told ;; esac
+    case "$command" in
+        'wh report '*) rows=$(rows_of_report "$told") ;;
+        'wh query '*) rows=$(rows_of_query "$told") ;;
+    esac
     command=
 }
 
@@ -56,12 +65,12 @@ run_block() {
         postgresql) told=$(psql -d shop -Atq -c "$lines" 2>&1 < /dev/null | in_hundredths) || true ;;
         *) return 0 ;;
     esac
-    compare "$lines" "$told" "$(rows_of_report "$report")"
+    compare "$lines" "$told" "$rows"
 }
 
 # document
 run_page() {
-    local program document line inside= language= command= lines= report=
+    local program document line inside= language= command= lines= rows= before removal=
     program=$(realpath "${WH:-crates/wh/out/wh}")
     document=$(realpath "$1")
     work=$(mktemp -d)
@@ -69,8 +78,9 @@ run_page() {
     mkdir "$work/bin"
     ln -s "$program" "$work/bin/wh"
     cp -R examples tools "$work"
-    PATH=$work/bin:$PATH
+    export PATH=$work/bin:$PATH
     cd "$work"
+    before=$(ls)
     while IFS= read -r line; do
         if [ -z "$inside" ]; then
             case "$line" in
@@ -78,6 +88,10 @@ run_page() {
                     inside=yes
                     language=${line#'```'}
                     lines=
+                    ;;
+                *'`rm '*)
+                    removal=${line##*'`rm '}
+                    removal="rm ${removal%%'`'*}"
                     ;;
             esac
         elif [ "$line" = '```' ]; then
@@ -94,6 +108,7 @@ run_page() {
     done < "$document"
     [ -z "$inside" ] || { echo "a block of code isn't ended"; failed=$((failed + 1)); }
     [ $((passed + failed)) -gt 0 ] || { echo "nothing to run in $document"; failed=1; }
+    compare "$removal leaves" "$(bash -c "$removal" 2>&1; ls)" "$before"
     echo "$passed passed, $failed failed"
     [ "$failed" = 0 ]
 }

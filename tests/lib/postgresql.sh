@@ -1,10 +1,11 @@
 # What the scripts that need PostgreSQL have in common. It is sourced, at the top of the repository.
 
+. tests/lib/packages.sh
+
 # Installs Debian's PostgreSQL and its package for Python where they aren't there; fails where that can't be done.
 install_postgresql() {
     if ! ls /usr/lib/postgresql/*/bin/initdb > /dev/null 2>&1 || ! /usr/bin/python3 -c 'import psycopg' 2> /dev/null; then
-        apt-get update > /dev/null 2>&1 || true
-        DEBIAN_FRONTEND=noninteractive apt-get install -y postgresql python3-psycopg > /dev/null 2>&1 || return 1
+        install_packages postgresql python3-psycopg || return 1
     fi
     postgresql=$(ls -d /usr/lib/postgresql/*/bin | sort -V | tail -n 1)
     PATH=$postgresql:$PATH

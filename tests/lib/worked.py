@@ -258,12 +258,18 @@ report product.category is {DAYS}
     (15, "report w product.category is 2025-01-01 2025-12-31", f"""\
 report product.category is 2025-01-01 2025-12-31
 {REPORT}       0          0           0.00           0.00           0.00  total"""),
+    (15, f"query w {DAYS} product.brand date.month --where product.brand=Cask --where product.brand:was=Acme", """\
+product.brand:was,date.month,lines,quantity,amount,cost,margin
+Acme,2023-12,1,1,2.50,1.60,0.90
+Cask,2024-02,2,3,7.50,4.80,2.70"""),
+    (15, f"query w {DAYS} date.month product.brand:is", "refused: G2 no reading, type 2 is"),
     (16, "plan w customer c3 c3", "put command 19\nput change 19 1\nedits 2"),
     (16, "load w customer c3 c3", "accepted 19 c3: 1 records, 0 placeholders"),
     (16, "load w customer c4 c4", "accepted 20 c4: 1 records, 0 placeholders"),
     (16, "load w customer c5 c5", "refused: E3 batch, B6 bad value, record 1"),
     (16, "load w void v1 v1", "refused: E3 batch, B10 not in format, record 0"),
     (16, "load w void v1 p00", "refused: E3 batch, B10 not in format, record 0"),
+    (16, "records w customer", f"id,day,tier,age_band,spend_band\nC9,2024-06-08,Gold,30-39,high\nC9,2024-07-01,Gold,40-49,high\nC8,2024-07-01,{60 * 'x'},,"),
     (16, "check w", "clean"),
     (16, "status w", "format 1\ncommands 20\nchanges 13\nfacts 4\nmembers product 2 store 1 customer 2"),
     (17, "dump w fact2", ""),
@@ -317,6 +323,13 @@ report date.month was {DAYS}
        1          1          10.00           7.00           3.00  2024-06
        1          2           5.00           3.20           1.80  2024-07
 {TOTAL}"""),
+    (20, f"query w {DAYS} customer.age_band product.category:is --where store.city=(unknown)", """\
+customer.age_band:was,product.category:is,lines,quantity,amount,cost,margin
+(no card),Soft drinks,2,2,5.00,3.20,1.80
+30-39,Drinks,1,1,10.00,7.00,3.00
+40-49,Soft drinks,1,2,5.00,3.20,1.80"""),
+    (20, f"query w {DAYS} store.city --where store.city=Bern", "store.city:was,lines,quantity,amount,cost,margin"),
+    (20, "records w product 6", f"{HEADERS['product']}\nP1,2024-06-01,Cola 1 l,Cask,Soft drinks,Grocery,2021,South\nP9,2024-06-05,Tea 50,Leaf,Drinks,Grocery,2024,North"),
     (20, "load w void v2 v1", "refused: E6 no line, record 1"),
     (20, "load w void v2 v2", "refused: E6 no line, record 2"),
     (20, "plan w void v2 v2", "refused: E6 no line, record 2"),
@@ -378,11 +391,11 @@ def printed(row, words):
     return next(lines for at, asked, lines in reversed(WORDS) if (at, asked) == (row, words))
 
 
-def run(program, folder, words, **environment):
-    """Runs the program in a folder; it is ended, and the script with it, where it takes 20 seconds."""
+def run(program, folder, words, told=b"", **environment):
+    """Runs the program in a folder, with what it is told on its standard input; it is ended, and the script with it, where it takes 20 seconds."""
     words = words.split(" ") if isinstance(words, str) else words
     done = subprocess.run(
-        [program, *words], cwd=folder, stdin=subprocess.DEVNULL, stdout=subprocess.PIPE, stderr=subprocess.DEVNULL, timeout=20,
+        [program, *words], cwd=folder, input=told, stdout=subprocess.PIPE, stderr=subprocess.DEVNULL, timeout=20,
         env={**os.environ, **environment} if environment else None,
     )
     return Answer(done.stdout, done.returncode)
