@@ -6,7 +6,8 @@ usage: beside_peer.py [--facts N] [--runs K] [--instructions] [--program PATH] P
 PEER is a program with the words `init`, `load`, `migrate`, `report` and `status` of `wh`, which works on the same files. `sqlite3` stands beside an
 upgrade, which PEER hasn't: it copies the facts by `INSERT .. SELECT` and deletes them. One warehouse of N facts is made by `wh deliver`
 (bench/deliver.py says of what), and each command works on a copy of it. Printed is a table in Markdown: the least processor time of K runs, in
-seconds, of an open and, less that, of each command; with --instructions what valgrind counts in one run each, in billions."""
+seconds, of an open, which is that of a load that is refused right behind it, and, less that, of each command; with --instructions what valgrind
+counts in one run each, in billions."""
 import argparse
 import os
 import re
@@ -18,7 +19,7 @@ import tempfile
 
 import deliver
 
-OPENED = "an open (`status`)"
+OPENED = "an open (a load whose id is taken, refused right behind it)"
 
 
 class Run:
@@ -62,7 +63,8 @@ def tasks(folder, program, peer):
         return Run(program, words, told), Run(peer, words, told)
 
     found = [
-        (OPENED, *both(["status", "{file}"], "format")),
+        (OPENED, *both(["load", "{file}", "sales", "s0", sold], "refused")),
+        ("counts of all (`status`)", *both(["status", "{file}"], "format")),
         ("5,000 sales", *both(["load", "{file}", "sales", "new", sold])),
         ("5,000 late product records", *both(["load", "{file}", "product", "new", products])),
         ("2,000 late customer records", *both(["load", "{file}", "customer", "new", customers])),
@@ -78,9 +80,6 @@ UPGRADE = """
 CREATE TABLE fact2 (ticket TEXT NOT NULL, line INTEGER NOT NULL, day INTEGER NOT NULL, store_key INTEGER NOT NULL, product_key INTEGER NOT NULL, customer_key INTEGER NOT NULL,
   store_durable INTEGER NOT NULL, product_durable INTEGER NOT NULL, customer_durable INTEGER NOT NULL, profile INTEGER NOT NULL, quantity INTEGER NOT NULL, amount INTEGER NOT NULL, cost INTEGER NOT NULL, discount INTEGER NOT NULL,
   PRIMARY KEY (ticket, line));
-CREATE INDEX fact2_by_store ON fact2 (store_durable, day);
-CREATE INDEX fact2_by_product ON fact2 (product_durable, day);
-CREATE INDEX fact2_by_customer ON fact2 (customer_durable, day);
 BEGIN;
 INSERT INTO fact2 SELECT *, 0 FROM fact;
 DELETE FROM fact;

@@ -1,11 +1,13 @@
-// What people would write instead of `wh report` and `wh dump`: a plain program over C SQLite that prints the same texts of a warehouse's file. It trusts
-// the file, and knows the two attributes beforehand. `report FILE brand|month FROM TO`, or `report FILE fact`. bench/report.py builds and runs it.
+// What people would write instead of `wh report`, `wh query` and `wh dump`: a plain program over C SQLite that prints the same texts of a warehouse's file. It
+// trusts the file, and knows the attributes beforehand. `report FILE brand|month FROM TO`, `report FILE query FROM TO TIER` (by brand and month, of the
+// customers of a tier), or `report FILE fact`. bench/report.py builds and runs it.
 #include <algorithm>
 #include <charconv>
 #include <cstdint>
 #include <cstdio>
 #include <cstdlib>
 #include <cstring>
+#include <numeric>
 #include <sqlite3.h>
 #include <string>
 #include <unordered_map>
@@ -58,36 +60,54 @@ static int64_t day_key(const char *day) {
     return std::atoll(day) * 10000 + std::atoll(day + 5) * 100 + std::atoll(day + 8);
 }
 
-// One query for the labels, one scan of the facts, sums by label.
-static void report(const char *name, const char *labels_text, const char *facts_text, const char *from, const char *to) {
-    std::unordered_map<std::string, size_t> places;
-    std::vector<std::string> labels;
+// The labels of a column, and the place of each key's one among them.
+struct Labels {
+    std::vector<std::string> texts;
     std::unordered_map<int64_t, size_t> by_key;
-    sqlite3_stmt *rows = prepared(labels_text);
-    while (steps(rows)) {
-        std::string label((const char *)sqlite3_column_text(rows, 1), sqlite3_column_bytes(rows, 1));
-        auto [place, is_new] = places.try_emplace(label, labels.size());
-        if (is_new) labels.push_back(label);
-        by_key[sqlite3_column_int64(rows, 0)] = place->second;
+
+    explicit Labels(const char *text) {
+        std::unordered_map<std::string, size_t> places;
+        sqlite3_stmt *rows = prepared(text);
+        while (steps(rows)) {
+            std::string label((const char *)sqlite3_column_text(rows, 1), sqlite3_column_bytes(rows, 1));
+            auto [place, is_new] = places.try_emplace(label, texts.size());
+            if (is_new) texts.push_back(label);
+            by_key[sqlite3_column_int64(rows, 0)] = place->second;
+        }
+        sqlite3_finalize(rows);
     }
-    sqlite3_finalize(rows);
-    std::vector<Sums> sums(labels.size());
-    Sums total;
-    sqlite3_stmt *facts = prepared(facts_text);
+
+    // the places in order of the labels' bytes
+    std::vector<size_t> order() const {
+        std::vector<size_t> order(texts.size());
+        std::iota(order.begin(), order.end(), 0);
+        std::sort(order.begin(), order.end(), [&](size_t one, size_t other) { return texts[one] < texts[other]; });
+        return order;
+    }
+};
+
+static sqlite3_stmt *facts_between(const char *text, const char *from, const char *to) {
+    sqlite3_stmt *facts = prepared(text);
     sqlite3_bind_int64(facts, 1, day_key(from));
     sqlite3_bind_int64(facts, 2, day_key(to));
+    return facts;
+}
+
+// One query for the labels, one scan of the facts, sums by label.
+static void report(const char *name, const char *labels_text, const char *facts_text, const char *from, const char *to) {
+    Labels labels(labels_text);
+    std::vector<Sums> sums(labels.texts.size());
+    Sums total;
+    sqlite3_stmt *facts = facts_between(facts_text, from, to);
     while (steps(facts)) {
         int64_t quantity = sqlite3_column_int64(facts, 1), amount = sqlite3_column_int64(facts, 2), cost = sqlite3_column_int64(facts, 3);
-        sums[by_key.at(sqlite3_column_int64(facts, 0))].add(quantity, amount, cost);
+        sums[labels.by_key.at(sqlite3_column_int64(facts, 0))].add(quantity, amount, cost);
         total.add(quantity, amount, cost);
     }
     sqlite3_finalize(facts);
-    std::vector<size_t> order;
-    for (size_t place = 0; place < labels.size(); place++)
-        if (sums[place].lines > 0) order.push_back(place);
-    std::sort(order.begin(), order.end(), [&](size_t one, size_t other) { return labels[one] < labels[other]; });
     std::printf("report %s was %s %s\n   lines   quantity         amount           cost         margin  label\n", name, from, to);
-    for (size_t place : order) print_line(sums[place], labels[place]);
+    for (size_t place : labels.order())
+        if (sums[place].lines > 0) print_line(sums[place], labels.texts[place]);
     print_line(total, "total");
 }
 
@@ -102,6 +122,30 @@ static void add_text(std::string &line, const char *text, size_t size) {
         line += text[place];
     }
     line += '"';
+}
+
+// One scan of the facts, sums by brand and month, for the customers of a tier.
+static void query(const char *from, const char *to, const char *tier) {
+    Labels brands("SELECT surrogate, a2 FROM product"), months("SELECT date_key, substr(iso, 1, 7) FROM calendar"), tiers("SELECT surrogate, a1 FROM customer");
+    size_t asked = std::find(tiers.texts.begin(), tiers.texts.end(), tier) - tiers.texts.begin(), width = months.texts.size();
+    std::vector<Sums> sums(brands.texts.size() * width);
+    sqlite3_stmt *facts = facts_between("SELECT product_key, day, customer_key, quantity, amount, cost FROM fact WHERE day BETWEEN ? AND ?", from, to);
+    while (steps(facts))
+        if (tiers.by_key.at(sqlite3_column_int64(facts, 2)) == asked)
+            sums[brands.by_key.at(sqlite3_column_int64(facts, 0)) * width + months.by_key.at(sqlite3_column_int64(facts, 1))].add(
+                sqlite3_column_int64(facts, 3), sqlite3_column_int64(facts, 4), sqlite3_column_int64(facts, 5));
+    sqlite3_finalize(facts);
+    std::printf("product.brand:was,date.month,lines,quantity,amount,cost,margin\n");
+    std::vector<size_t> by_month = months.order();
+    for (size_t brand : brands.order())
+        for (size_t month : by_month) {
+            const Sums &them = sums[brand * width + month];
+            if (them.lines == 0) continue;
+            std::string line;
+            add_text(line, brands.texts[brand].data(), brands.texts[brand].size());
+            std::printf("%s,%s,%lld,%lld,%s,%s,%s\n", line.c_str(), months.texts[month].c_str(), (long long)them.lines, (long long)them.quantity,
+                        money(them.amount).c_str(), money(them.cost).c_str(), money(them.amount - them.cost).c_str());
+        }
 }
 
 static void dump() {
@@ -139,6 +183,8 @@ int main(int count, char **words) {
         report("product.brand", "SELECT surrogate, a2 FROM product", "SELECT product_key, quantity, amount, cost FROM fact WHERE day BETWEEN ? AND ?", words[3], words[4]);
     else if (job == "month" && count == 5)
         report("date.month", "SELECT date_key, substr(iso, 1, 7) FROM calendar", "SELECT day, quantity, amount, cost FROM fact WHERE day BETWEEN ? AND ?", words[3], words[4]);
+    else if (job == "query" && count == 6)
+        query(words[3], words[4], words[5]);
     else
         return 4;
     sqlite3_close(file);

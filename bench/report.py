@@ -1,14 +1,16 @@
 #!/usr/bin/env python3
-"""Times `wh report`, by an attribute that is found by the surrogate key (product.brand) and by the month, and `wh dump` of the facts, over a file
-of 1,000,000 facts, which it makes as bench/deliver.py does (build the program first: `rt run` in crates/wh; some two minutes for the file). Beside each the
-same job by bench/report.cpp, a plain program over C SQLite, built here with g++; both have to print the same text.
+"""Times `wh report`, by an attribute that is found by the surrogate key (product.brand) and by the month, `wh query` by both of the customers without a
+card, and `wh dump` of the facts, over a file of 1,000,000 facts, which it makes as bench/deliver.py does (build the program first: `rt run` in crates/wh; some
+two minutes for the file). Beside each the same job by bench/report.cpp, a plain program over C SQLite, built here with g++; both have to print the same text.
 report.py [--facts N] [--runs N] [--file FILE] [PROGRAM]. --file keeps the warehouse under this name, or takes the one that is there.
 
-Prints processor seconds and the greatest memory, the least of the runs each. An open of the file, which reads and checks all of it, is measured by `wh status`, and
-what a job takes less that open is told as well; the other program's times are whole, since its open reads next to nothing. A process begins as a copy of this one, so no memory below some 11 MB is seen."""
+Prints processor seconds, the least of the runs each. An open of the file, which reads and checks all of it, is that of `wh status`. The jobs are asked of one
+`wh session`, whose first answer has opened the file, so they are less the open; the other program's times are whole, since its open reads next to nothing. The
+greatest memory of both is told, too; a process begins as a copy of this one, so no memory below some 11 MB is seen."""
 import argparse
 import filecmp
 import os
+import shutil
 import subprocess
 import sys
 import tempfile
@@ -17,10 +19,11 @@ sys.dont_write_bytecode = True
 from deliver import POLICY, SIZE, TOP, commands
 
 HERE = os.path.dirname(os.path.abspath(__file__))
-FROM, TO = "2024-01-01", "2025-12-31"
+FROM, TO, TIER = "2024-01-01", "2025-12-31", "(no card)"
 JOBS = (
     ("report product.brand was", ("report", "product.brand", "was", FROM, TO), ("brand", FROM, TO)),
     ("report date.month was", ("report", "date.month", "was", FROM, TO), ("month", FROM, TO)),
+    ("query product.brand date.month", ("query", FROM, TO, "product.brand", "date.month", "--where", f"customer.tier={TIER}"), ("query", FROM, TO, TIER)),
     ("dump fact", ("dump", "fact"), ("fact",)),
 )
 
@@ -37,6 +40,35 @@ def run(out, *words):
         with open(out, errors="replace") as text:
             sys.exit(f"{' '.join(words)}: status {os.waitstatus_to_exitcode(status)}\n{text.read(1000)}")
     return spent.ru_utime + spent.ru_stime, spent.ru_maxrss / 1024
+
+
+class Session:
+    """A session of the program over a file, and what its answers take."""
+
+    def __init__(self, program, path):
+        self.process = subprocess.Popen([program, "session", path], stdin=subprocess.PIPE, stdout=subprocess.PIPE)
+
+    def spent(self):
+        """Processor seconds so far."""
+        with open(f"/proc/{self.process.pid}/schedstat", encoding="ascii") as file:
+            return int(file.read().split()[0]) / 1e9
+
+    def ask(self, out, words):
+        """Puts the answer to the words of a line into a file, and gives the processor seconds that it took."""
+        before = self.spent()
+        self.process.stdin.write(" ".join(f'"{word}"' for word in words).encode() + b"\n")
+        self.process.stdin.flush()
+        with open(out, "wb") as text:
+            for line in iter(self.process.stdout.readline, b"status 0\n"):
+                if not line or line.startswith(b"status "):
+                    sys.exit(f"{' '.join(words)}: {line.decode() or 'the session ended'}")
+                text.write(line)
+        return self.spent() - before
+
+    def end(self):
+        """The greatest memory, in megabytes."""
+        self.process.stdin.close()
+        return os.wait4(self.process.pid, 0)[2].ru_maxrss / 1024
 
 
 def least(runs, out, *words):
@@ -56,7 +88,7 @@ def make(folder, program, path, facts):
 
 
 def main():
-    words = argparse.ArgumentParser(description="Times reports and dumps.")
+    words = argparse.ArgumentParser(description="Times reports, a query and a dump.")
     words.add_argument("--facts", type=int, default=1_000_000)
     words.add_argument("--runs", type=int, default=5)
     words.add_argument("--file")
@@ -73,14 +105,20 @@ def main():
         with open(out, encoding="ascii") as text:
             facts = text.read().splitlines()[3]
         print(f"{facts}, a file of {os.path.getsize(path) / 1e6:.0f} MB: an open takes {opening:.2f} s of processor time and {memory:.0f} MB")
-        print("| What | Processor time less the open | With it | Memory at the peak | C++ over C SQLite | Memory | Ratio |")
-        print("|---|---|---|---|---|---|---|")
-        for name, (word, *rest), beside in JOBS:
-            spent, most = least(given.runs, out, program, word, path, *rest)
-            plain_spent, plain_most = least(given.runs, other, plain, path, *beside)
+        # a session locks its file, so the other program reads a copy
+        copied = os.path.join(folder, "copy.wh")
+        shutil.copyfile(path, copied)
+        session = Session(program, path)
+        session.ask(out, ["status"])
+        print("| What | `wh`, less the open | C++ over C SQLite | Memory of C++ | Ratio |")
+        print("|---|---|---|---|---|")
+        for name, words, beside in JOBS:
+            spent = min(session.ask(out, words) for _ in range(given.runs))
+            plain_spent, plain_most = least(given.runs, other, plain, copied, *beside)
             if not filecmp.cmp(out, other, shallow=False):
                 sys.exit(f"{name}: the two texts differ")
-            print(f"| {name} | {spent - opening:.2f} s | {spent:.2f} s | {most:.0f} MB | {plain_spent:.2f} s | {plain_most:.0f} MB | {(spent - opening) / plain_spent:.1f} |")
+            print(f"| {name} | {spent:.2f} s | {plain_spent:.2f} s | {plain_most:.0f} MB | {spent / plain_spent:.1f} |", flush=True)
+        print(f"At its peak the session had {session.end():.0f} MB.")
 
 
 main()
