@@ -11,7 +11,7 @@ from unittest import mock
 
 from shops import PROGRAM, STAND_IN, STRANGE, WithFolder, make_strange, wh
 from wh_web.copies import CopiedSession
-from wh_web.files import is_held
+from wh_web.files import is_held, write_whole
 from wh_web.session import NoAnswer, NotAsked, Session, line_of
 
 # Locks a file as the program does, until its input ends.
@@ -114,6 +114,20 @@ class Asked(WithFolder):
     def test_a_file_that_is_held(self) -> None:
         told = Session(answered(self.folder / "held", "failed: F1 file, x\\n", 3), self.path).ask("status")
         self.assertEqual((told.lines, told.status), (["failed: F1 file, x"], 3))
+
+
+class Written(WithFolder):
+    """What the program reads while another thread writes it."""
+
+    def test_no_list_is_read_half(self) -> None:
+        path, read = self.folder / "list", set()
+        write_whole(path, b"x" * 1_000_000)
+        writer = threading.Thread(target=lambda: [write_whole(path, b"x" * 1_000_000) for _ in range(100)])
+        writer.start()
+        while writer.is_alive():
+            read.add(len(path.read_bytes()))
+        self.assertEqual(read, {1_000_000})
+        self.assertEqual(list(self.folder.iterdir()), [path])
 
 
 class Copies(WithFolder):

@@ -10,6 +10,7 @@ from dataclasses import dataclass
 from pathlib import Path
 
 from wh_web.columns import DIMENSIONS
+from wh_web.files import write_whole
 from wh_web.question import Question
 from wh_web.session import Answer, Asks, NotAsked
 from wh_web.star import Star, iso
@@ -64,8 +65,8 @@ class Shelf:
         """Keeps a batch."""
         batch = self._batch(kind, hashlib.sha256(content).hexdigest())
         with self._putting:
-            batch.path.write_bytes(content)
-            kept = sorted(self._folder.iterdir(), key=lambda it: it.stat().st_mtime_ns)
+            write_whole(batch.path, content)
+            kept = sorted(self._folder.glob("*.csv"), key=lambda it: it.stat().st_mtime_ns)
             for oldest in kept[:-_MOST_KEPT]:
                 oldest.unlink()
         return batch

@@ -1,11 +1,13 @@
 """What can be asked by: the attributes of the policy in force, each in the readings that its type has, and the dates."""
 
 import csv
+import hashlib
 import re
 from dataclasses import dataclass
 from enum import StrEnum
 from pathlib import Path
 
+from wh_web.files import write_whole
 from wh_web.session import Asks, NoAnswer
 
 DIMENSIONS = ("product", "store", "customer")
@@ -112,8 +114,10 @@ class Columns:
 def read_columns(session: Asks, folder: Path) -> Columns:
     """Asks for the attributes and their types: what has no prior value says its type."""
     named = [(group, slot, name) for group in DIMENSIONS for slot, name in enumerate(_names(session, group), start=1)]
-    wanted = folder / "attributes.csv"
-    wanted.write_text("".join(f"{group}.{name},prior,1900-01-01,1900-01-01\n" for group, _, name in named), encoding="ascii")
+    asked = "".join(f"{group}.{name},prior,1900-01-01,1900-01-01\n" for group, _, name in named).encode("ascii")
+    # named by what it holds, since an answer is remembered by the name
+    wanted = folder / f"attributes-{hashlib.sha256(asked).hexdigest()}.csv"
+    write_whole(wanted, asked)
     told = "\n".join(session.ask("reports", str(wanted)).lines).split("\n\n")
     if len(told) != len(named):
         raise NoAnswer(told[0])

@@ -4,6 +4,7 @@ import fcntl
 import os
 import shutil
 import struct
+import tempfile
 from pathlib import Path
 
 # Where SQLite locks a file, and how a lock is asked for: type, whence, start, length, process.
@@ -33,6 +34,13 @@ def signature(path: Path) -> Signature:
             if part == path or told.st_size > _EMPTY_LOG:
                 found.append((told.st_ino, told.st_size, told.st_mtime_ns))
     return tuple(found)
+
+
+def write_whole(path: Path, content: bytes) -> None:
+    """Writes a file that others may read meanwhile: they see what it held before, or all of this."""
+    with tempfile.NamedTemporaryFile(dir=path.parent, prefix=".new-", delete=False) as new:
+        new.write(content)
+    os.replace(new.name, path)
 
 
 def is_held(path: Path) -> bool:
