@@ -46,6 +46,14 @@ def make_shop(path: Path) -> None:
     wh("deliver", str(path), "examples/shop/nights.csv")
 
 
+def make_shop_of_profiles(path: Path) -> None:
+    """The same shop, in which a customer's age band is of type 4."""
+    policy = (ROOT / "examples/shop/policy.toml").read_text(encoding="ascii")
+    path.with_name("policy.toml").write_text(policy.replace("type = 5", "type = 4"), encoding="ascii")
+    wh("init", str(path), str(path.with_name("policy.toml")))
+    wh("deliver", str(path), "examples/shop/nights.csv")
+
+
 def make_strange(path: Path) -> None:
     """A shop with a product of each strange description and brand, each sold once."""
     wh("init", str(path), "examples/shop/policy.toml")

@@ -11,7 +11,7 @@ from pathlib import Path
 from unittest import mock
 from urllib.parse import parse_qs, urlencode
 
-from shops import PROGRAM, ROOT, STRANGE, WithFolder, make_shop, make_strange, rows_of, wh
+from shops import PROGRAM, ROOT, STRANGE, WithFolder, make_shop, make_shop_of_profiles, make_strange, rows_of, wh
 from wh_web.pages import Site, make_app
 from wh_web.session import Session
 
@@ -290,6 +290,15 @@ class Discounts(Asked):
         self.assertEqual(answer.status_code, 404)
         self.assertIn("withdrawn by command 13, v1", answer.text)
         self.assertNotIn("1004, 2", self.client.get("/lines").text)
+
+
+class Profiles(Asked):
+    """An attribute that only the profile of the day and the records have."""
+
+    make = staticmethod(make_shop_of_profiles)
+
+    def test_the_newest_record_is_as_it_is_now(self) -> None:
+        self.assertIn(["Age band", "30-39", "40-49", ""], Page(self.client.get("/line/1001/1").text).rows)
 
 
 class Nights(WithFolder):

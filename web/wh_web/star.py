@@ -74,11 +74,11 @@ class Star:
                 return newest[f"a{column.slot}"]
         return row[f"a{column.slot}"]
 
-    def newest(self, sale: Fields, column: Column) -> str:
-        """The value that an attribute of a sale's member has now; of type 4 only the records have it."""
+    def newest(self, sale: Fields, column: Column, told: Sequence["Told"]) -> str:
+        """The value that an attribute of a sale's member has now; of type 4 only the member's records have it, which are told in order."""
         match column.type:
             case 4:
-                return ""
+                return told[-1].values[column.slot - 1] if told else self.label(sale, column)
             case 5:
                 return self.label(sale, replace(column, reading=Reading.IS))
         return self._current[column.group, sale[f"{column.group}_durable"]][f"a{column.slot}"]
