@@ -94,5 +94,5 @@ for word in init load migrate upgrade deliver report reports dump status explain
         echo "wh --help does not say of $word: $said"
     fi
 done
-line "wh 1.0, reads warehouse formats 1 and 2" 0 --version
+line "wh 1.0.0, reads warehouse formats 1 and 2" 0 --version
 run_page README.md

@@ -24,9 +24,9 @@ same() {
     fi
 }
 
-# One version: the changelog's newest, and the program's, which has no third number.
+# One version: the changelog's newest, and the program's.
 same "the changelog's version" "$(sed -n 's/^## \[\([0-9.]*\)\].*/\1/p' CHANGELOG.md | head -n 1)" "$version"
-same "the program's version" "$("$program" --version | cut -d , -f 1)" "wh ${version%.*}"
+same "the program's version" "$("$program" --version | cut -d , -f 1)" "wh $version"
 
 # A log as the gate prints it: a crate that is kept, one that is proved, one whose lines belong to what ran beside it, one with such lines in between, one of
 # which only the tests are proved, and nothing of the others.

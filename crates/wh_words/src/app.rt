@@ -73,7 +73,7 @@ Example:
 ";
 
 /// The version, with the formats that it reads.
-const VERSION: &str = "1.0, reads warehouse formats 1 and 2";
+const VERSION: &str = "1.0.0, reads warehouse formats 1 and 2";
 
 const FILE: (&str, &str) = ("FILE", "the warehouse, a file that `wh init` made");
 

@@ -279,10 +279,10 @@ ended help
 = a text
 = status 0
 run --version
-= wh 1.0, reads warehouse formats 1 and 2
+= wh 1.0.0, reads warehouse formats 1 and 2
 = status 0
 run -V
-= wh 1.0, reads warehouse formats 1 and 2
+= wh 1.0.0, reads warehouse formats 1 and 2
 = status 0
 ended load --version
 = a text

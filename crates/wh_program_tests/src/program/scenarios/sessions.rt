@@ -127,7 +127,7 @@ session w
 session w
 > --version
 > trial product products.csv
-= wh 1.0, reads warehouse formats 1 and 2
+= wh 1.0.0, reads warehouse formats 1 and 2
 = status 0
 = failed: F1 file, products.csv
 = status 3
