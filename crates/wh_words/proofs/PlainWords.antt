@@ -141,7 +141,7 @@ query_fits (f ∷ d ∷ t ∷ b ∷ more) is =
     let f-is = both_true (is_operand f) _ is in
     let d-is = both_true (is_operand d) _ f-is.1 in
     let t-is = both_true (is_operand t) _ d-is.1 in
-    inl (Query f d t (b ∷ more) [], record { words_are = sym (ap (λ (columns : List Text). codes "query" ∷ f ∷ d ∷ t ∷ columns) (append-nil (b ∷ more))); operands = both f-is.0 (both d-is.0 (both t-is.0 (both refl (both t-is.1 refl)))) })
+    inl (Query f d t (b ∷ more) [] false, record { words_are = sym (ap (λ (columns : List Text). codes "query" ∷ f ∷ d ∷ t ∷ columns) (append-nil (b ∷ more))); operands = both f-is.0 (both d-is.0 (both t-is.0 (both refl (both t-is.1 refl)))) })
 
 reports_fits : (rest : List Text) → list_all is_operand rest ≡ true → Fits (codes "reports" ∷ rest)
 unfolding commands_on_literals

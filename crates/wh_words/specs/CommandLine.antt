@@ -4,7 +4,7 @@ use Rattle.std.specs.Prelude.{◌≡◌, ◌++◌, unwrap_or, ℕ, List, [], ◌
 use Rattle.wh_words.specs.declared.app.More.{More}
 use Rattle.wh_words.specs.declared.app.More.TheVariants as more
 use Rattle.wh_words.specs.declared.app.Subcommand.{Subcommand}
-use Rattle.clap.specs.declared.builder.action.ArgAction.TheVariants.{Append}
+use Rattle.clap.specs.declared.builder.action.ArgAction.TheVariants.{Append, SetTrue}
 use Rattle.clap.specs.Words.{App, Row, Rule, Text, all_of, first_of, new_app, new_rule, with_rule, with_subcommand}
 
 -- an operand that a command can't do without
@@ -18,6 +18,10 @@ optional_operand name = new_rule name
 -- an option that takes a value
 abbrev pub option_of : List ℕ → List ℕ → Rule
 option_of name long = record (new_rule name) { long = Some long }
+
+-- an option that takes none
+abbrev pub flag_of : List ℕ → List ℕ → Rule
+flag_of name long = record (option_of name long) { action = Some SetTrue }
 
 -- an operand that is given once or more often
 abbrev pub repeated_operand : List ℕ → Rule
@@ -41,7 +45,7 @@ abbrev pub with_more : More → App → App
 with_more more.Nothing app = app
 with_more more.Policy app = with_rule app (option_of (codes "POLICY") (codes "policy"))
 with_more (more.Optional name help) app = with_rule app (optional_operand name.now)
-with_more more.Columns app = with_rule (with_rule app (repeated_operand (codes "BY"))) (repeated_option (codes "WHERE") (codes "where"))
+with_more more.Columns app = with_rule (with_rule (with_rule app (repeated_operand (codes "BY"))) (repeated_option (codes "WHERE") (codes "where"))) (flag_of (codes "TABLE") (codes "table"))
 
 -- the operands that a row of the program's table names
 abbrev pub operands_app : Subcommand → App
@@ -61,7 +65,7 @@ unfoldable pub records_app : App
 records_app = with_rule (command_app (codes "records") (codes "FILE" ∷ codes "DIMENSION" ∷ [])) (optional_operand (codes "FROM"))
 
 unfoldable pub query_app : App
-query_app = with_rule (with_rule (command_app (codes "query") (codes "FILE" ∷ codes "FROM" ∷ codes "TO" ∷ [])) (repeated_operand (codes "BY"))) (repeated_option (codes "WHERE") (codes "where"))
+query_app = with_rule (with_rule (with_rule (command_app (codes "query") (codes "FILE" ∷ codes "FROM" ∷ codes "TO" ∷ [])) (repeated_operand (codes "BY"))) (repeated_option (codes "WHERE") (codes "where"))) (flag_of (codes "TABLE") (codes "table"))
 
 abbrev pub init_app : App
 init_app = command_app (codes "init") (codes "FILE" ∷ codes "POLICY" ∷ [])
@@ -136,6 +140,11 @@ abbrev pub condition_words : List (List ℕ) → List (List ℕ)
 condition_words [] = []
 condition_words (c ∷ conditions) = codes "--where" ∷ c ∷ condition_words conditions
 
+-- the word for a table, where one is wanted
+abbrev pub table_words : Bool → List (List ℕ)
+table_words true = codes "--table" ∷ []
+table_words false = []
+
 -- the word does not begin with a hyphen, so it is no option
 abbrev pub is_operand : List ℕ → Bool
 is_operand [] = true
@@ -157,7 +166,7 @@ pub data CommandLine : Type 0 where
   Explain : (file kind : List ℕ) → (path : Option (List ℕ)) → CommandLine
   Records : (file dimension : List ℕ) → (from : Option (List ℕ)) → CommandLine
   Report : (file attribute mode from to : List ℕ) → CommandLine
-  Query : (file from to : List ℕ) → (columns conditions : List (List ℕ)) → CommandLine
+  Query : (file from to : List ℕ) → (columns conditions : List (List ℕ)) → (as_table : Bool) → CommandLine
   Reports : (file list : List ℕ) → CommandLine
   Dump : (file table : List ℕ) → CommandLine
   Check : (file : List ℕ) → CommandLine
@@ -176,7 +185,7 @@ words_of (Plan file kind id path) = codes "plan" ∷ file ∷ kind ∷ id ∷ pa
 words_of (Explain file kind path) = explain_words file kind path
 words_of (Records file dimension from) = records_words file dimension from
 words_of (Report file attribute mode from to) = codes "report" ∷ file ∷ attribute ∷ mode ∷ from ∷ to ∷ []
-words_of (Query file from to columns conditions) = codes "query" ∷ file ∷ from ∷ to ∷ (columns ++ condition_words conditions)
+words_of (Query file from to columns conditions as_table) = codes "query" ∷ file ∷ from ∷ to ∷ (columns ++ (condition_words conditions ++ table_words as_table))
 words_of (Reports file list) = codes "reports" ∷ file ∷ list ∷ []
 words_of (Dump file table) = codes "dump" ∷ file ∷ table ∷ []
 words_of (Check file) = codes "check" ∷ file ∷ []
@@ -199,7 +208,7 @@ has_operands (Plan file kind id path) = is_operand file && (is_operand kind && (
 has_operands (Explain file kind path) = is_operand file && (is_operand kind && is_operand_or_none path)
 has_operands (Records file dimension from) = is_operand file && (is_operand dimension && is_operand_or_none from)
 has_operands (Report file attribute mode from to) = is_operand file && (is_operand attribute && (is_operand mode && (is_operand from && is_operand to)))
-has_operands (Query file from to columns conditions) = is_operand file && (is_operand from && (is_operand to && (has_some columns && (list_all is_operand columns && list_all is_operand conditions))))
+has_operands (Query file from to columns conditions as_table) = is_operand file && (is_operand from && (is_operand to && (has_some columns && (list_all is_operand columns && list_all is_operand conditions))))
 has_operands (Reports file list) = is_operand file && is_operand list
 has_operands (Dump file table) = is_operand file && is_operand table
 has_operands (Check file) = is_operand file
@@ -259,9 +268,15 @@ named_days file attribute mode rows = option_and_then (λ from. option_map (λ t
 abbrev pub named_report : List Row → Option CommandLine
 named_report rows = option_and_then (λ f. option_and_then (λ a. option_and_then (λ m. named_days f a m rows) (first_of (codes "MODE") rows)) (first_of (codes "ATTRIBUTE") rows)) (first_of (codes "FILE") rows)
 
+-- whether an option that takes no value is given: its row says so
+abbrev pub is_given : Option (List ℕ) → Bool
+is_given None = false
+is_given (Some word) = bytes_eq word (codes "true")
+
 -- a query, of which the words for its last day and its columns are still to come
 abbrev pub named_columns : (file from : List ℕ) → List Row → Option CommandLine
-named_columns file from rows = option_and_then (λ t. option_map (λ columns. Query file from t columns (unwrap_or (all_of (codes "WHERE") rows) [])) (all_of (codes "BY") rows)) (first_of (codes "TO") rows)
+named_columns file from rows =
+    option_and_then (λ t. option_map (λ columns. Query file from t columns (unwrap_or (all_of (codes "WHERE") rows) []) (is_given (first_of (codes "TABLE") rows))) (all_of (codes "BY") rows)) (first_of (codes "TO") rows)
 
 abbrev pub named_query : List Row → Option CommandLine
 named_query rows = option_and_then (λ f. option_and_then (λ d. named_columns f d rows) (first_of (codes "FROM") rows)) (first_of (codes "FILE") rows)

@@ -37,7 +37,7 @@ line_of (operands.Plan s) = line.Plan s.file.now s.kind.now s.id.now s.path.now
 line_of (operands.Explain file kind path) = line.Explain file.now kind.now (optional_text path)
 line_of (operands.Records file dimension from) = line.Records file.now dimension.now (optional_text from)
 line_of (operands.Report r) = line.Report r.file.now r.attribute.now r.mode.now r.from.now r.to.now
-line_of (operands.Query q) = line.Query q.file.now q.from.now q.to.now (words_in q.columns.now) (all_words_in q.conditions)
+line_of (operands.Query q) = line.Query q.file.now q.from.now q.to.now (words_in q.columns.now) (all_words_in q.conditions) q.as_table
 line_of (operands.Reports file list) = line.Reports file.now list.now
 line_of (operands.Dump file table) = line.Dump file.now table.now
 line_of (operands.Check file) = line.Check file.now
@@ -49,7 +49,7 @@ report_words asked = record { attribute = asked.attribute.now; mode = asked.mode
 
 -- the words of a query
 abbrev pub query_words : AskedQuery → QueryWords
-query_words asked = record { columns = asked.columns.items; conditions = asked.conditions.items; from = asked.from.now; to = asked.to.now }
+query_words asked = record { columns = asked.columns.items; conditions = asked.conditions.items; from = asked.from.now; to = asked.to.now; as_table = asked.as_table }
 
 -- what is to be done
 abbrev pub task_in : TaskFound → Task

@@ -1,5 +1,5 @@
 -- What the words of a command are to do.
-use Rattle.std.specs.Prelude.{◌≢◌, ◌⊎◌, ℕ, List, [], ◌∷◌, Option, Some, None, option_map, Result, Ok, Err, ok_or, nat_le, length}
+use Rattle.std.specs.Prelude.{◌≢◌, ◌⊎◌, ℕ, Bool, List, [], ◌∷◌, Option, Some, None, option_map, Result, Ok, Err, ok_or, nat_le, length}
 use Rattle.wh_policy.specs.declared.attribute.Dim.{Dim}
 use Rattle.wh_policy.specs.Words.{dim_of_word}
 use Rattle.wh_batch.specs.declared.kind.Kind.{Kind}
@@ -26,12 +26,13 @@ pub record ReportWords : Type 0 where
   pub from : List ℕ
   pub to : List ℕ
 
--- the words of a query: its columns and conditions, and the first and the last day, as they were given
+-- the words of a query: its columns and conditions, the first and the last day, as they were given, and whether a table is wanted
 pub record QueryWords : Type 0 where
   pub columns : List ColumnGiven
   pub conditions : List ConditionGiven
   pub from : List ℕ
   pub to : List ℕ
+  pub as_table : Bool
 
 pub data Task : Type 0 where
   Trial : Dim → (path : List ℕ) → (policy : Option (List ℕ)) → Task
@@ -88,16 +89,18 @@ with_line line (Ok given) = Ok given
 with_line line (Err word) = Err (line word)
 
 -- the query of columns, and of words for conditions
-abbrev pub query_by : (file from to : List ℕ) → List ColumnGiven → (conditions : List (List ℕ)) → Result Task (List ℕ)
-query_by file from to columns conditions = with_line no_condition_line (each_given condition_given conditions) >>= λ held. Ok (Query file (record { columns = columns; conditions = held; from = from; to = to }))
+abbrev pub query_by : (file from to : List ℕ) → List ColumnGiven → (conditions : List (List ℕ)) → (as_table : Bool) → Result Task (List ℕ)
+query_by file from to columns conditions as_table =
+    with_line no_condition_line (each_given condition_given conditions) >>= λ held. Ok (Query file (record { columns = columns; conditions = held; from = from; to = to; as_table = as_table }))
 
 -- the query of words for columns and conditions
-abbrev pub query_of : (file from to : List ℕ) → (columns conditions : List (List ℕ)) → Result Task (List ℕ)
-query_of file from to columns conditions = with_line no_column_line (each_given column_given columns) >>= λ shown. query_by file from to shown conditions
+abbrev pub query_of : (file from to : List ℕ) → (columns conditions : List (List ℕ)) → (as_table : Bool) → Result Task (List ℕ)
+query_of file from to columns conditions as_table = with_line no_column_line (each_given column_given columns) >>= λ shown. query_by file from to shown conditions as_table
 
 -- up to six columns and up to twelve conditions
-abbrev pub query_asked : (file from to : List ℕ) → (columns conditions : List (List ℕ)) → Result Task (List ℕ)
-query_asked file from to columns conditions = unless_fault (nat_le (length columns) 6) too_many_columns_line (unless_fault (nat_le (length conditions) 12) too_many_conditions_line (query_of file from to columns conditions))
+abbrev pub query_asked : (file from to : List ℕ) → (columns conditions : List (List ℕ)) → (as_table : Bool) → Result Task (List ℕ)
+query_asked file from to columns conditions as_table =
+    unless_fault (nat_le (length columns) 6) too_many_columns_line (unless_fault (nat_le (length conditions) 12) too_many_conditions_line (query_of file from to columns conditions as_table))
 
 abbrev pub dump_asked : (file table : List ℕ) → Result Task (List ℕ)
 dump_asked file table = ok_or (option_map (λ t. Dump file t) (table_of_name table)) (no_table_line table)
@@ -114,7 +117,7 @@ task_of (line.Plan file kind id path) = plan_asked file kind id path
 task_of (line.Explain file kind path) = explain_asked file kind path
 task_of (line.Records file dimension from) = records_asked file dimension from
 task_of (line.Report file attribute mode from to) = report_asked file attribute mode from to
-task_of (line.Query file from to columns conditions) = query_asked file from to columns conditions
+task_of (line.Query file from to columns conditions as_table) = query_asked file from to columns conditions as_table
 task_of (line.Reports file list) = Ok (Reports file list)
 task_of (line.Dump file table) = dump_asked file table
 task_of (line.Check file) = Ok (Check file)

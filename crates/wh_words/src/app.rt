@@ -3,7 +3,7 @@
 ghost use Rattle.std.specs.Prelude.{◌≡◌, IfOk, codes, false, map};
 ghost use Rattle.clap.specs.Words.{app_of, with_rule};
 ghost use Rattle.clap.specs.declared.builder.command.Command.TheViews.{out-Command};
-ghost use Rattle.wh_words.specs.CommandLine.{operand, optional_operand, option_of, repeated_operand, repeated_option, operands_app, subcommand_app, with_commands, with_more, top_app, program_app};
+ghost use Rattle.wh_words.specs.CommandLine.{operand, optional_operand, option_of, flag_of, repeated_operand, repeated_option, operands_app, subcommand_app, with_commands, with_more, top_app, program_app};
 ghost use Rattle.wh_words.specs.declared.app.More.TheVariants as variants;
 
 use clap::{Arg, ArgAction, Command};
@@ -17,7 +17,7 @@ enum More<'a> {
     Policy,
     /// An operand that can be left out: its name and its help.
     Optional(&'a str, &'a str),
-    /// The columns and the conditions of a query.
+    /// The columns, the conditions and the form of a query.
     Columns,
 }
 
@@ -358,14 +358,27 @@ fn with_conditions<'a>(alloc: Global, command: Command<'a>) -> Result<Command<'a
     ))
 }
 
-/// `command` with the columns and the conditions of a query.
+/// `command` with the option for a table.
+fn with_table<'a>(alloc: Global, command: Command<'a>) -> Result<Command<'a>, AllocError>
+    requires local { (out-Command command).has_globals ≡ false }
+    ensures app { IfOk result (λ c. app_of c ≡ with_rule (app_of command.entry) (flag_of (codes "TABLE") (codes "table"))) }
+    ensures local { IfOk result (λ c. (out-Command c).has_globals ≡ false) }
+{
+    let table = Arg::new(alloc, "TABLE")
+        .long("table")
+        .action(ArgAction::SetTrue);
+    command.arg(table.help("prints a table with aligned columns and a total, and not CSV"))
+}
+
+/// `command` with the columns, the conditions and the form of a query.
 fn with_slice<'a>(alloc: Global, command: Command<'a>) -> Result<Command<'a>, AllocError>
     requires local { (out-Command command).has_globals ≡ false }
     ensures app { IfOk result (λ c. app_of c ≡ with_more variants.Columns (app_of command.entry)) }
     ensures local { IfOk result (λ c. (out-Command c).has_globals ≡ false) }
 {
     let query = with_columns(alloc, command)?;
-    with_conditions(alloc, query)
+    let query = with_conditions(alloc, query)?;
+    with_table(alloc, query)
 }
 
 /// `command` with what it takes beside its first operands.

@@ -6,7 +6,7 @@ ghost use Rattle.clap.specs.declared.error.ErrorKind.TheVariants.{OutOfMemory};
 ghost use Rattle.wh_rows.specs.Names.{table_of_name};
 ghost use Rattle.wh_words.specs.Given.{words_in};
 ghost use Rattle.wh_words.specs.WrongWord.{wrong_word_line};
-ghost use Rattle.wh_words.specs.CommandLine.{CommandLine, program_app, words_of, has_operands, named, named_trial, named_explain, named_records, named_init, named_sent, named_load, named_migrate, named_upgrade, named_deliver, named_plan, named_report, named_query, named_reports, named_dump, named_check, named_status, named_session};
+ghost use Rattle.wh_words.specs.CommandLine.{CommandLine, program_app, words_of, has_operands, is_given, named, named_trial, named_explain, named_records, named_init, named_sent, named_load, named_migrate, named_upgrade, named_deliver, named_plan, named_report, named_query, named_reports, named_dump, named_check, named_status, named_session};
 ghost use Rattle.wh_words.specs.Request.{optional_text, sent_of, line_of, asked_in, Asks, IsDeclined, IsReadAs};
 ghost use Rattle.wh_words.specs.Task.{trial_asked, load_asked, plan_asked, explain_asked, records_from, records_asked, report_asked, dump_asked, faults_in, asked_by};
 
@@ -163,7 +163,7 @@ struct ReportOperands<'a> {
     to: &'a str,
 }
 
-/// The operands of a query, and its conditions.
+/// The operands of a query, its conditions, and whether a table is wanted.
 #[derive(Clone, Copy, Drop)]
 pub(crate) struct QueryOperands<'m, 'a> {
     pub file: &'a str,
@@ -171,6 +171,7 @@ pub(crate) struct QueryOperands<'m, 'a> {
     pub to: &'a str,
     pub columns: &'m [&'a str],
     pub conditions: Option<&'m [&'a str]>,
+    pub as_table: bool,
 }
 
 /// A subcommand with its operands.
@@ -348,6 +349,16 @@ fn all_of<'m, 'a>(inner: &'m ArgMatches<'a>, name: &str) -> Option<&'m [&'a str]
     inner.get_raw(name)
 }
 
+/// Whether an option that takes no value was given.
+fn is_given(inner: &ArgMatches<'_>, name: &str) -> bool
+    ensures { result ≡ is_given (first_of name.now (rows_of (found_of inner.now))) }
+{
+    match first_of(inner, name) {
+        Some(word) => word == "true",
+        None => false,
+    }
+}
+
 fn query_operands<'m, 'a>(inner: &'m ArgMatches<'a>) -> Option<Operands<'m, 'a>>
     ensures { option_map line_of result ≡ named_query (rows_of (found_of inner.now)) }
 {
@@ -357,6 +368,7 @@ fn query_operands<'m, 'a>(inner: &'m ArgMatches<'a>) -> Option<Operands<'m, 'a>>
         to: first_of(inner, "TO")?,
         columns: all_of(inner, "BY")?,
         conditions: all_of(inner, "WHERE"),
+        as_table: is_given(inner, "TABLE"),
     }))
 }
 

@@ -22,6 +22,8 @@ pub struct AskedQuery<'a> {
     pub from: &'a str,
     /// The last day, as it was given.
     pub to: &'a str,
+    /// Whether the answer is to be a table, and not CSV.
+    pub as_table: bool,
 }
 
 /// The columns that words say, or the first word that says none.
@@ -87,7 +89,7 @@ fn query_by<'a>(
     words: &QueryOperands<'_, 'a>,
     columns: Vec<ColumnWords<'a>>,
 ) -> Result<Request<'a>, AllocError>
-    ensures { IfOk result (λ request. asked_in request ≡ Some (query_by words.now.file.now words.now.from.now words.now.to.now columns.entry.items (all_words_in words.now.conditions))) }
+    ensures { IfOk result (λ request. asked_in request ≡ Some (query_by words.now.file.now words.now.from.now words.now.to.now columns.entry.items (all_words_in words.now.conditions) words.now.as_table)) }
 {
     match all_conditions(alloc, words.conditions)? {
         Ok(conditions) => {
@@ -96,6 +98,7 @@ fn query_by<'a>(
                 conditions,
                 from: words.from,
                 to: words.to,
+                as_table: words.as_table,
             };
             Ok(Request::Task(Task::Query {
                 file: words.file,
@@ -108,7 +111,7 @@ fn query_by<'a>(
 
 /// The query of words for columns and conditions, not too many of which there are.
 fn query_of<'a>(alloc: Global, words: &QueryOperands<'_, 'a>) -> Result<Request<'a>, AllocError>
-    ensures { IfOk result (λ request. asked_in request ≡ Some (query_of words.now.file.now words.now.from.now words.now.to.now (words_in words.now.columns.now) (all_words_in words.now.conditions))) }
+    ensures { IfOk result (λ request. asked_in request ≡ Some (query_of words.now.file.now words.now.from.now words.now.to.now (words_in words.now.columns.now) (all_words_in words.now.conditions) words.now.as_table)) }
 {
     match columns_given(alloc, words.columns)? {
         Ok(columns) => query_by(alloc, words, columns),
@@ -121,7 +124,7 @@ pub(crate) fn query_request<'a>(
     alloc: Global,
     words: &QueryOperands<'_, 'a>,
 ) -> Result<Request<'a>, AllocError>
-    ensures { IfOk result (λ request. asked_in request ≡ Some (query_asked words.now.file.now words.now.from.now words.now.to.now (words_in words.now.columns.now) (all_words_in words.now.conditions))) }
+    ensures { IfOk result (λ request. asked_in request ≡ Some (query_asked words.now.file.now words.now.from.now words.now.to.now (words_in words.now.columns.now) (all_words_in words.now.conditions) words.now.as_table)) }
 {
     if 6 < words.columns.len() {
         return mistake(alloc, TOO_MANY_COLUMNS);
