@@ -61,7 +61,7 @@ use Rattle.wh_report.proofs.ReportLaws.{each_of, sales_labelled}
 use Rattle.wh_report.proofs.ReportedHistory.{defined, few_facts, wanting}
 use Rattle.wh_report.specs.Lines.{Labelled, lines}
 use Rattle.wh_report.proofs.AddedLines.{moved}
-use Rattle.wh_query.specs.Answer.{label_in, labels_in, is_in, measures_of, answer, answer_text}
+use Rattle.wh_query.specs.Answer.{label_in, labels_in, is_in, measures_of, answer, text_in}
 use Rattle.wh_query.specs.Answered.{columns_asked, lead_in, IsInconsistent, facts_linked, AnswersTables, Answers}
 use Rattle.wh_query.specs.Asked.{ColumnAsked, QueryAsked, alone, condition_columns, have_readings, query_reads, is_between, holds}
 use Rattle.wh_query.specs.Words.{by_texts}
@@ -255,7 +255,7 @@ module _ (limits : Limits) (commands : List Accepted) (admitted : AreAdmitted li
 
     answered : (result : Result (Vec ℕ Global) ReportFault) → AnswersTables (format_of commands) q (columns_asked policy (condition_columns q.conditions)) (columns_asked policy q.columns) t result → IfErr result IsOfTables → ((fault : Fault) → result ≡ Err (Warehouse fault) → IsWanting fault)
         → Answers commands q result
-    answered (Ok text) says only wants = says.0 ∙ ap (answer_text q.columns) facts_sold
+    answered (Ok text) says only wants = says.0 ∙ ap (text_in q.form q.columns) facts_sold
     answered (Err (Warehouse fault)) says only wants = wants fault refl
     answered (Err (Inconsistent found)) says only wants = absurd (consistent found says)
     answered (Err (Unwritten fault)) says only wants = absurd only

@@ -2,6 +2,8 @@ pub mod Words
 pub mod Leading
 pub mod Holding
 pub mod Texts
+pub mod Columns
+pub mod Totals
 pub mod QueryLaws
 pub mod Counting
 pub mod Read

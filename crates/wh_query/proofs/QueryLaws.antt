@@ -1,6 +1,6 @@
 -- Laws of every query.
-use Rattle.std.proofs.Common.{◌≡◌, ℕ, Bool, true, false, cond, ◌&&◌, ◌||◌, List, [], ◌∷◌, map, Some, refl, sym, ◌∙◌, ap, ap₂}
-use Rattle.std.specs.Prelude.{filter, bytes_eq, option_map, unwrap_or}
+use Rattle.std.proofs.Common.{◌≡◌, ℕ, Bool, true, false, cond, ◌&&◌, ◌||◌, List, [], ◌∷◌, map, Some, refl, sym, ◌∙◌, ap, ap₂, append_assoc}
+use Rattle.std.specs.Prelude.{◌++◌, codes, filter, bytes_eq, option_map, unwrap_or}
 use Rattle.std.specs.Option.{option_and_then}
 use Rattle.std.specs.Ordering.{ordering_then}
 use Rattle.std.specs.declared.cmp.Ordering.TheVariants.{Less, Equal, Greater}
@@ -10,21 +10,28 @@ use Rattle.std.proofs.lemmas.Slice.Eq.{bytes_eq-Decides}
 use Rattle.wh_policy.specs.declared.record.SaleRecord.{SaleRecord}
 use Rattle.wh_history.specs.Accepted.{Accepted, standing}
 use Rattle.wh_admission.specs.Admission.{current_policy}
+use Rattle.wh_report.specs.Asked.{Asked}
 use Rattle.wh_report.specs.Label.{label, sold_as_asked}
 use Rattle.wh_report.specs.Request.{is_asked_of}
 use Rattle.wh_report.specs.Subject.{subject_in, reading_of}
-use Rattle.wh_report.specs.Sums.{Figures}
+use Rattle.wh_report.specs.Sums.{Figures, plus}
+use Rattle.wh_report.specs.Text.{line_text, lines_text, summary_text, titles}
 use Rattle.wh_report.specs.Summary.{Sold, by_bytes, summed}
 use Rattle.wh_batch.specs.Mode.{mode_word}
 use Rattle.wh_report.specs.declared.subject.Reading.{Reading}
 use Rattle.wh_report.specs.declared.subject.Subject.{Subject}
-use Rattle.wh_report.specs.Lines.{Labelled, figures, lines}
+use Rattle.wh_report.specs.Laws.{total_line}
+use Rattle.wh_report.specs.Lines.{Labelled, added, figures, lines}
 use Rattle.wh_report.proofs.AddedLines.{as_sorted, up-lines, any_order as in_any_order, lines_add_up as add_up}
+use Rattle.wh_report.proofs.TextMaps.{same_label}
 use Rattle.wh_report.proofs.MappedLines.{relabel, lines-map, has_such, lines-filter}
 use Rattle.wh_query.specs.Answer.{label_in, labels_in, is_in, measures_of, sold_in, answer}
-use Rattle.wh_query.specs.Asked.{ColumnAsked, ConditionAsked, QueryAsked, condition_columns, report_asked, same_column, accepts, holds_from, holds, is_between}
-use Rattle.wh_query.specs.Laws.{ReportsAreQueries, LinesAddUp, by_columns, SumsAgree, sliced, by_column, begins, IsFree, SlicesAreLines, AnyOrder, LinesRise}
+use Rattle.wh_query.specs.Asked.{ColumnAsked, ConditionAsked, QueryAsked, condition_columns, report_asked, same_column, accepts, holds_from, holds, is_between, column_name}
+use Rattle.wh_query.specs.Laws.{ReportsAreQueries, LinesAddUp, measures_in, by_columns, SumsAgree, TablesEndWithTotals, TablesAreReports, sliced, by_column, begins, IsFree, SlicesAreLines, AnyOrder, LinesRise}
+use Rattle.wh_query.specs.Table.{in_columns, side_by_side, table_text}
 use Rattle.wh_query.specs.Words.{by_texts}
+use Rattle.wh_query.specs.declared.form.Form.{Form}
+use Rattle.wh_query.specs.declared.form.Form.TheVariants.{Table}
 use Rattle.wh_query.proofs.Texts.{texts_total, same_texts}
 
 pub any_order : AnyOrder
@@ -56,9 +63,9 @@ report_lines sales = refl
 alone_same : (a b : List ℕ) → by_texts (a ∷ []) (b ∷ []) ≡ by_bytes a b
 alone_same a b = elim (by_bytes a b) as (λ o. ordering_then o Equal ≡ o) [ Less ↦ refl | Equal ↦ refl | Greater ↦ refl ]
 
-module _ (commands : List Accepted) (c : ColumnAsked) (from to : ℕ) (subject : Subject) (which : Reading) (names : subject_in (current_policy commands) c.words ≡ Some subject) (shows : reading_of subject c.mode ≡ Some which) where
+module _ (commands : List Accepted) (c : ColumnAsked) (from to : ℕ) (form : Form) (subject : Subject) (which : Reading) (names : subject_in (current_policy commands) c.words ≡ Some subject) (shows : reading_of subject c.mode ≡ Some which) where
   abbrev q : QueryAsked
-  q = record { columns = c ∷ []; conditions = []; from = from; to = to }
+  q = record { columns = c ∷ []; conditions = []; from = from; to = to; form = form }
 
   abbrev by_one : List ℕ → List (List ℕ)
   by_one l = l ∷ []
@@ -89,7 +96,43 @@ module _ (commands : List Accepted) (c : ColumnAsked) (from to : ℕ) (subject :
       ∙ ap (map (λ (l : List ℕ × Figures). (l.0 ∷ [], l.1))) (sym (report_lines (sold_as_asked commands subject which (report_asked q c))))
 
 pub reports_are_queries : ReportsAreQueries
-reports_are_queries commands c from to subject which names shows = is_report commands c from to subject which names shows
+reports_are_queries commands c from to form subject which names shows = is_report commands c from to form subject which names shows
+
+-- ---- tables
+
+pub tables_end : TablesEndWithTotals
+unfolding table_text summary_text total_line
+tables_end commands q =
+    let ls = answer commands q in
+    let top : List ℕ = titles (in_columns (map column_name q.columns)) in
+    let rows : List ℕ = lines_text (side_by_side ls) in
+    record {
+      front = top ++ rows;
+      is = ap (λ (t : Figures). top ++ (rows ++ line_text (codes "total") t)) (lines_add_up commands q) ∙ sym (append_assoc top rows (line_text (codes "total") (figures (measures_in commands q))));
+    }
+
+abbrev each_alone : List (List ℕ × Figures) → List (List (List ℕ) × Figures)
+each_alone = map (λ (l : List ℕ × Figures). (l.0 ∷ [], l.1))
+
+shown_alone : (ls : List (List ℕ × Figures)) → side_by_side (each_alone ls) ≡ ls
+shown_alone [] = refl
+shown_alone (l ∷ ls) = ap (λ xs. l ∷ xs) (shown_alone ls)
+
+added_alone : (ls : List (List ℕ × Figures)) → added (each_alone ls) ≡ added ls
+added_alone [] = refl
+added_alone (l ∷ ls) = ap (plus l.1) (added_alone ls)
+
+report_total : (sales : List Sold) → added (summed sales).lines ≡ (summed sales).total
+unfolding summed
+report_total sales = add_up by_bytes nat_list_cmp_total same_label sales
+
+pub tables_are_reports : TablesAreReports
+unfolding table_text
+tables_are_reports commands c from to subject which names shows =
+    let r : Asked = record { words = c.words; mode = c.mode; from = from; to = to } in
+    let s = summed (sold_as_asked commands subject which r) in
+    ap (λ ls. titles (column_name c) ++ summary_text (record { lines = side_by_side ls; total = added ls })) (is_report commands c from to Table subject which names shows)
+    ∙ ap₂ (λ ls t. titles (column_name c) ++ summary_text (record { lines = ls; total = t })) (shown_alone s.lines) (added_alone s.lines ∙ report_total (sold_as_asked commands subject which r))
 
 -- ---- slices
 

@@ -16,6 +16,7 @@ use Rattle.wh_report.specs.declared.subject.Subject.{Subject}
 use Rattle.wh_report.specs.declared.subject.Subject.TheVariants.{Attribute, Month, Holiday}
 use Rattle.wh_report.proofs.Ranges.{days_made, given, given_is, range_there}
 use Rattle.wh_query.specs.Asked.{ColumnAsked, ConditionAsked, QueryAsked, alone, have_readings, query_reads}
+use Rattle.wh_query.specs.declared.form.Form.TheVariants.{Csv}
 use Rattle.wh_query.specs.Reading.{mode_meant, read_each, read_column, read_condition, read_query}
 use Rattle.wh_batch.specs.QueryWords.{ColumnGiven, ConditionGiven}
 use Rattle.wh_query.specs.Laws.{QueriesHaveReadings, NoModeIsNeeded, of_request, ReadAsRequests}
@@ -50,7 +51,7 @@ module _ (policy : Policy) (from to : List ℕ) where
       subst (λ (d : ConditionAsked). has_reading policy (alone d.column) ≡ true) (given_is (record { column = read.0; label = c.label }) condition read.2) (column_reads c.column read.0 read.1)
 
 abbrev query_of : List ColumnAsked → List ConditionAsked → ℕ → ℕ → QueryAsked
-query_of columns conditions first last = record { columns = columns; conditions = conditions; from = first; to = last }
+query_of columns conditions first last = record { columns = columns; conditions = conditions; from = first; to = last; form = Csv }
 
 whole_reads : (policy : Policy) (q : QueryAsked) (columns : List ColumnAsked) (conditions : List ConditionAsked) (first last : ℕ) → q ≡ query_of columns conditions first last
     → have_readings policy columns ≡ true → list_all (λ (d : ConditionAsked). has_reading policy (alone d.column)) conditions ≡ true → query_reads policy q ≡ true

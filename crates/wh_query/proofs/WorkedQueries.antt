@@ -8,13 +8,15 @@ use Rattle.wh_policy.specs.declared.record.DimensionRecord.{DimensionRecord}
 use Rattle.wh_policy.specs.declared.record.SaleRecord.{SaleRecord}
 use Rattle.wh_policy.proofs.OnLiterals.{policy_on_literals}
 use Rattle.wh_history.specs.Accepted.{Accepted, Content, Governs, Describes, Sells}
-use Rattle.wh_report.specs.Text.{hundredths, money}
+use Rattle.wh_report.specs.Text.{aligned, hundredths, line_text, money, summary_text, titles}
 use Rattle.wh_report.specs.Subject.{subject_in}
 use Rattle.wh_batch.specs.declared.mode.Mode.TheVariants.{Was}
 use Rattle.wh_report.proofs.Worked.{policy}
 use Rattle.wh_report.specs.Lines.{lines}
 use Rattle.wh_query.specs.Answer.{query}
-use Rattle.wh_query.specs.Asked.{ColumnAsked, ConditionAsked, QueryAsked}
+use Rattle.wh_query.specs.Asked.{ColumnAsked, ConditionAsked, QueryAsked, in_form}
+use Rattle.wh_query.specs.Table.{characters, in_column, table_text}
+use Rattle.wh_query.specs.declared.form.Form.TheVariants.{Csv, Table}
 
 -- ---- what was accepted
 
@@ -60,7 +62,7 @@ abbrev only : ColumnAsked → List ℕ → ConditionAsked
 only column label = record { column = column; label = label }
 
 abbrev in_2024 : List ColumnAsked → List ConditionAsked → QueryAsked
-in_2024 columns conditions = record { columns = columns; conditions = conditions; from = 20240101; to = 20241231 }
+in_2024 columns conditions = record { columns = columns; conditions = conditions; from = 20240101; to = 20241231; form = Csv }
 
 -- brand by month of one shop alone
 brand_by_month_in_bern : query commands (in_2024 (brand ∷ month ∷ []) (only city (codes "Bern, Gare") ∷ []))
@@ -84,3 +86,40 @@ leaf_in_genf : query commands (in_2024 (brand ∷ []) (only city (codes "Genf") 
     ≡ codes "product.brand:was,lines,quantity,amount,cost,margin\n"
 unfolding policy_on_literals subject_in lines money hundredths escaped fields_text is_blank digits
 leaf_in_genf = refl
+
+-- ---- as a table
+
+-- brand by month of one shop alone: a brand of more places than a month, and the total
+table_in_bern : query commands (in_form Table (in_2024 (brand ∷ month ∷ []) (only city (codes "Bern, Gare") ∷ [])))
+    ≡ codes "   lines   quantity         amount           cost         margin  product.brand:was        date.month\n"
+    ++ codes "       2          6          15.00           9.60           5.40  Acme                     2024-02\n"
+    ++ codes "       1          1           2.50           1.60           0.90  Bolt                     2024-01\n"
+    ++ codes "       1          1          10.00           7.00           3.00  Leaf                     2024-02\n"
+    ++ codes "       4          8          27.50          18.20           9.30  total\n"
+unfolding policy_on_literals subject_in lines money hundredths digits table_text titles summary_text line_text aligned in_column characters
+table_in_bern = refl
+
+-- no label is quoted
+table_by_city : query commands (in_form Table (in_2024 (city ∷ []) []))
+    ≡ codes "   lines   quantity         amount           cost         margin  store.city:was\n"
+    ++ codes "       4          8          27.50          18.20           9.30  Bern, Gare\n"
+    ++ codes "       1          3           7.50           4.80           2.70  Genf\n"
+    ++ codes "       5         11          35.00          23.00          12.00  total\n"
+unfolding policy_on_literals subject_in lines money hundredths digits table_text titles summary_text line_text aligned in_column characters
+table_by_city = refl
+
+-- no sale is in the slice
+table_of_nothing : query commands (in_form Table (in_2024 (brand ∷ []) (only city (codes "Genf") ∷ only brand (codes "Leaf") ∷ [])))
+    ≡ codes "   lines   quantity         amount           cost         margin  product.brand:was\n"
+    ++ codes "       0          0           0.00           0.00           0.00  total\n"
+unfolding policy_on_literals subject_in lines money hundredths digits table_text titles summary_text line_text aligned in_column characters
+table_of_nothing = refl
+
+-- ü is one character of two bytes, and a text of more than 24 characters takes more places
+in_its_column : in_column (90 ∷ 195 ∷ 188 ∷ codes "rich") ≡ (90 ∷ 195 ∷ 188 ∷ codes "rich") ++ codes "                   "
+unfolding in_column characters
+in_its_column = refl
+
+beyond_its_column : in_column (codes "a description without end") ≡ codes "a description without end "
+unfolding in_column characters
+beyond_its_column = refl

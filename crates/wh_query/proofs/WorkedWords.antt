@@ -10,6 +10,7 @@ use Rattle.wh_batch.specs.declared.mode.Mode.TheVariants.{Was, Is, Prior}
 use Rattle.wh_report.specs.declared.request.RequestFault.TheVariants.{NoAttribute, NoReading, NoDateReading, BadRange}
 use Rattle.wh_report.proofs.Worked.{policy}
 use Rattle.wh_query.specs.Asked.{column_name}
+use Rattle.wh_query.specs.declared.form.Form.TheVariants.{Csv}
 use Rattle.wh_query.specs.Reading.{read_query}
 use Rattle.wh_batch.specs.QueryWords.{ColumnGiven, ConditionGiven}
 
@@ -32,6 +33,7 @@ modes_meant : read_query policy (by (codes "product.brand") None ∷ by (codes "
       conditions = record { column = record { words = codes "store.city"; mode = Was }; label = codes "Bern, Gare" } ∷ [];
       from = 20240101;
       to = 20241231;
+      form = Csv;
     })
 unfolding read_query read_request subject_in policy_on_literals
 modes_meant = refl
@@ -59,7 +61,7 @@ range_alone : read_query policy [] [] last first ≡ Err BadRange
 unfolding read_query policy_on_literals
 range_alone = refl
 
-by_nothing : read_query policy [] [] first first ≡ Ok (record { columns = []; conditions = []; from = 20240101; to = 20240101 })
+by_nothing : read_query policy [] [] first first ≡ Ok (record { columns = []; conditions = []; from = 20240101; to = 20240101; form = Csv })
 unfolding read_query policy_on_literals
 by_nothing = refl
 

@@ -13,7 +13,10 @@ use Rattle.wh_report.specs.Sums.{Measured, Figures, margin}
 use Rattle.wh_report.specs.Text.{money}
 use Rattle.wh_report.specs.Lines.{Labelled, lines}
 use Rattle.wh_query.specs.Asked.{ColumnAsked, QueryAsked, condition_columns, is_between, holds, column_name}
+use Rattle.wh_query.specs.Table.{table_text}
 use Rattle.wh_query.specs.Words.{by_texts}
+use Rattle.wh_query.specs.declared.form.Form.{Form}
+use Rattle.wh_query.specs.declared.form.Form.TheVariants as form
 
 -- the label of a sale in a column, as a report by this column has it
 abbrev pub label_in : List Accepted → ColumnAsked → SaleRecord → List ℕ
@@ -55,6 +58,11 @@ lines_text ls = concat (map (λ l. row_text default_writer (line_fields l.0 l.1)
 abbrev pub answer_text : List ColumnAsked → List (List (List ℕ) × Figures) → List ℕ
 answer_text columns ls = row_text default_writer (header_fields columns) ++ lines_text ls
 
+-- the lines in a form
+abbrev pub text_in : Form → List ColumnAsked → List (List (List ℕ) × Figures) → List ℕ
+text_in form.Csv columns ls = answer_text columns ls
+text_in form.Table columns ls = table_text columns ls
+
 -- The answer to a query: what the sales of the slice come to, each under its labels.
 abbrev pub query : List Accepted → QueryAsked → List ℕ
-query commands q = answer_text q.columns (answer commands q)
+query commands q = text_in q.form q.columns (answer commands q)

@@ -23,8 +23,8 @@ use Rattle.wh_report.specs.Sums.{Figures, IsMeasured}
 use Rattle.wh_report.specs.declared.column.LabelColumn.{LabelColumn}
 use Rattle.wh_report.specs.declared.output.ReportFault.{ReportFault}
 use Rattle.wh_report.specs.declared.output.ReportFault.TheVariants.{Write, Warehouse, Unwritten, Inconsistent}
-use Rattle.wh_report.specs.Lines.{lines}
-use Rattle.wh_query.specs.Answer.{answer_text, query}
+use Rattle.wh_report.specs.Lines.{added, lines}
+use Rattle.wh_query.specs.Answer.{text_in, query}
 use Rattle.wh_query.specs.Asked.{ColumnAsked, QueryAsked, alone}
 use Rattle.wh_query.specs.Words.{by_texts}
 use Rattle.wh_query.specs.Slice.{Lead, measures_of, sold_sales, AreLed, LacksLabel}
@@ -41,6 +41,12 @@ report_fault format uncounted.Memory = Warehouse faults.Memory
 report_fault format (uncounted.NoLabel column) = Inconsistent (label_column_table column)
 report_fault format uncounted.Damaged = Inconsistent (facts_table format)
 
+-- why lines have no text: memory ran out, or together they are more than can be counted
+abbrev pub IsUntold : List (List (List ℕ) × Figures) → SaleFault → Type 0
+IsUntold ls uncounted.Memory = ⊤
+IsUntold ls (uncounted.NoLabel column) = ⊥
+IsUntold ls uncounted.Damaged = 4_294_967_295 ≤ (added ls).lines
+
 module _ (format : Format) (q : QueryAsked) (filters columns : List Lead) (sales : List LinkedSale) (TooMany : Type 0) where
   -- a row that a sale of the range names is missing in the table that is found; or that is the facts', and it has more than can be counted
   abbrev pub IsInconsistent : Table → Type 0
@@ -54,7 +60,7 @@ module _ (format : Format) (q : QueryAsked) (filters columns : List Lead) (sales
 
   -- and the text of it
   abbrev pub IsWritten : Result (Vec ℕ Global) ReportFault → Type 0
-  IsWritten (Ok text) = (text.items ≡ answer_text q.columns (lines by_texts (sold_sales q filters columns sales))) × AreLed q filters columns sales
+  IsWritten (Ok text) = (text.items ≡ text_in q.form q.columns (lines by_texts (sold_sales q filters columns sales))) × AreLed q filters columns sales
   IsWritten (Err (Inconsistent found)) = IsInconsistent found
   IsWritten (Err fault) = ⊤
 

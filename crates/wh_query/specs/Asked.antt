@@ -7,6 +7,7 @@ use Rattle.wh_report.specs.Asked.{Asked}
 use Rattle.wh_report.specs.Request.{has_reading}
 use Rattle.wh_batch.specs.Mode.{mode_word}
 use Rattle.wh_batch.specs.declared.mode.Mode.{Mode}
+use Rattle.wh_query.specs.declared.form.Form.{Form}
 
 -- the words for an attribute, and a mode
 pub record ColumnAsked : Type 0 where
@@ -18,12 +19,17 @@ pub record ConditionAsked : Type 0 where
   pub column : ColumnAsked
   pub label : List ℕ
 
--- the columns, the conditions, and the first and the last day
+-- the columns, the conditions, the first and the last day, and the form of the answer
 pub record QueryAsked : Type 0 where
   pub columns : List ColumnAsked
   pub conditions : List ConditionAsked
   pub from : ℕ
   pub to : ℕ
+  pub form : Form
+
+-- the same query with its answer in a form
+abbrev pub in_form : Form → QueryAsked → QueryAsked
+in_form form q = record q { form = form }
 
 -- the report by one column over the days of the query
 abbrev pub report_asked : QueryAsked → ColumnAsked → Asked

@@ -1,5 +1,5 @@
 -- What holds of every query.
-use Rattle.std.specs.Prelude.{◌≡◌, ℕ, Bool, true, false, List, [], ◌∷◌, map, filter, Some, None, Ok, is_some, bytes_eq}
+use Rattle.std.specs.Prelude.{◌≡◌, ℕ, Bool, true, false, List, [], ◌∷◌, ◌++◌, map, filter, Some, None, Ok, is_some, bytes_eq}
 use Rattle.std.specs.List.{AllByRecursion}
 use Rattle.std.specs.List.Sorted.{IsPermutation, IsStrictlySortedBy}
 use Rattle.wh_day.specs.Reading.{◌>>=◌}
@@ -8,18 +8,23 @@ use Rattle.wh_history.specs.Accepted.{Accepted, standing}
 use Rattle.wh_admission.specs.Admission.{current_policy}
 use Rattle.wh_report.specs.Asked.{Asked}
 use Rattle.wh_report.specs.Label.{sold_as_asked}
+use Rattle.wh_report.specs.Laws.{total_line, EndsWith}
 use Rattle.wh_report.specs.Lines.{Labelled, figures, lines, added}
 use Rattle.wh_report.specs.Request.{read_request, subject_reads}
 use Rattle.wh_report.specs.Subject.{subject_in, reading_of}
 use Rattle.wh_report.specs.Sums.{Measured}
 use Rattle.wh_report.specs.Summary.{Sold, by_bytes, summed}
+use Rattle.wh_report.specs.Text.{summary_text, titles}
 use Rattle.wh_report.specs.declared.subject.Reading.{Reading}
 use Rattle.wh_report.specs.declared.subject.Subject.{Subject}
-use Rattle.wh_query.specs.Answer.{is_in, measures_of, answer}
-use Rattle.wh_query.specs.Asked.{ColumnAsked, ConditionAsked, QueryAsked, report_asked, query_reads, same_column}
+use Rattle.wh_query.specs.Answer.{is_in, measures_of, answer, query}
+use Rattle.wh_query.specs.Asked.{ColumnAsked, ConditionAsked, QueryAsked, column_name, report_asked, query_reads, same_column}
 use Rattle.wh_query.specs.Reading.{mode_meant, read_query}
 use Rattle.wh_batch.specs.QueryWords.{ColumnGiven, ConditionGiven}
+use Rattle.wh_query.specs.Table.{table_text}
 use Rattle.wh_query.specs.Words.{by_texts}
+use Rattle.wh_query.specs.declared.form.Form.{Form}
+use Rattle.wh_query.specs.declared.form.Form.TheVariants.{Csv, Table}
 
 -- What a report sums by labels are the lines by labels that are texts.
 abbrev pub ReportsHaveLines : Type 0
@@ -27,10 +32,10 @@ ReportsHaveLines = (sales : List Sold) → (summed sales).lines ≡ lines by_byt
 
 -- By one column and without conditions the lines are those of the report by this column.
 abbrev pub ReportsAreQueries : Type 0
-ReportsAreQueries = (commands : List Accepted) (c : ColumnAsked) (from to : ℕ) (subject : Subject) (which : Reading)
+ReportsAreQueries = (commands : List Accepted) (c : ColumnAsked) (from to : ℕ) (form : Form) (subject : Subject) (which : Reading)
     → subject_in (current_policy commands) c.words ≡ Some subject
     → reading_of subject c.mode ≡ Some which
-    → let q : QueryAsked = record { columns = c ∷ []; conditions = []; from = from; to = to } in answer commands q ≡ map (λ l. (l.0 ∷ [], l.1)) (summed (sold_as_asked commands subject which (report_asked q c))).lines
+    → let q : QueryAsked = record { columns = c ∷ []; conditions = []; from = from; to = to; form = form } in answer commands q ≡ map (λ l. (l.0 ∷ [], l.1)) (summed (sold_as_asked commands subject which (report_asked q c))).lines
 
 -- the measures of the sales of the slice
 abbrev pub measures_in : List Accepted → QueryAsked → List Measured
@@ -42,14 +47,25 @@ LinesAddUp = (commands : List Accepted) (q : QueryAsked) → added (answer comma
 
 -- the same slice by other columns
 abbrev pub by_columns : List ColumnAsked → QueryAsked → QueryAsked
-by_columns columns q = record { columns = columns; conditions = q.conditions; from = q.from; to = q.to }
+by_columns columns q = record { columns = columns; conditions = q.conditions; from = q.from; to = q.to; form = q.form }
 
 abbrev pub SumsAgree : Type 0
 SumsAgree = (commands : List Accepted) (q : QueryAsked) (columns : List ColumnAsked) → added (answer commands (by_columns columns q)) ≡ added (answer commands q)
 
+-- A table ends with the line that they come to.
+abbrev pub TablesEndWithTotals : Type 0
+TablesEndWithTotals = (commands : List Accepted) (q : QueryAsked) → EndsWith (table_text q.columns (answer commands q)) (total_line (measures_in commands q))
+
+-- By one column and without conditions a table is what the report by this column has below its request, under this column's name.
+abbrev pub TablesAreReports : Type 0
+TablesAreReports = (commands : List Accepted) (c : ColumnAsked) (from to : ℕ) (subject : Subject) (which : Reading)
+    → subject_in (current_policy commands) c.words ≡ Some subject
+    → reading_of subject c.mode ≡ Some which
+    → let q : QueryAsked = record { columns = c ∷ []; conditions = []; from = from; to = to; form = Table } in query commands q ≡ titles (column_name c) ++ summary_text (summed (sold_as_asked commands subject which (report_asked q c)))
+
 -- the query where a column has a label, and the one by this column and its own
 abbrev pub sliced : ColumnAsked → List ℕ → QueryAsked → QueryAsked
-sliced c label q = record { columns = q.columns; conditions = record { column = c; label = label } ∷ q.conditions; from = q.from; to = q.to }
+sliced c label q = record { columns = q.columns; conditions = record { column = c; label = label } ∷ q.conditions; from = q.from; to = q.to; form = q.form }
 
 abbrev pub by_column : ColumnAsked → QueryAsked → QueryAsked
 by_column c q = by_columns (c ∷ q.columns) q
@@ -88,7 +104,7 @@ NoModeIsNeeded = (policy : Policy) (attribute : List ℕ) → is_some (subject_i
 
 -- the query by the column of a report
 abbrev pub of_request : Asked → QueryAsked
-of_request r = record { columns = record { words = r.words; mode = r.mode } ∷ []; conditions = []; from = r.from; to = r.to }
+of_request r = record { columns = record { words = r.words; mode = r.mode } ∷ []; conditions = []; from = r.from; to = r.to; form = Csv }
 
 -- One column alone makes the query of the report by it, and is refused exactly where the request of that is, for the same fault.
 abbrev pub ReadAsRequests : Type 0

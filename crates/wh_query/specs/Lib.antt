@@ -2,6 +2,7 @@ pub mod Asked
 pub mod Words
 pub mod Reading
 pub mod Found
+pub mod Table
 pub mod Answer
 pub mod Slice
 pub mod Led

@@ -9,6 +9,7 @@ use Rattle.wh_batch.specs.declared.mode.Mode.TheVariants.{Was, Is}
 use Rattle.wh_report.specs.declared.request.RequestFault.{RequestFault}
 use Rattle.wh_batch.specs.QueryWords.{ColumnGiven, ConditionGiven}
 use Rattle.wh_query.specs.Asked.{ColumnAsked, ConditionAsked, QueryAsked}
+use Rattle.wh_query.specs.declared.form.Form.TheVariants.{Csv}
 
 -- the mode that is given; else `was`, where the attribute has this reading under a policy, and else `is`
 abbrev pub mode_meant : Policy → ColumnGiven → Mode
@@ -35,9 +36,9 @@ module _ (policy : Policy) (from to : List ℕ) where
     column ← read_column c.column
     Ok (record { column = column; label = c.label })
 
--- The query that the words ask for, or the first fault: that of the first column, and then of the first condition, for which the request of a report is refused.
+-- The query that the words ask for, answered as CSV, or the first fault: that of the first column, and then of the first condition, for which the request of a report is refused.
 unfoldable pub read_query : Policy → List ColumnGiven → List ConditionGiven → List ℕ → List ℕ → Result QueryAsked RequestFault
 read_query policy columns conditions from to = do
   shown ← read_each (read_column policy from to) columns
   held ← read_each (read_condition policy from to) conditions
-  range_makes from to (λ first last. record { columns = shown; conditions = held; from = first; to = last })
+  range_makes from to (λ first last. record { columns = shown; conditions = held; from = first; to = last; form = Csv })

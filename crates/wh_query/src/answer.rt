@@ -21,7 +21,7 @@ use crate::fault::SaleFault;
 use crate::led::{LedColumn, push_led};
 use crate::lines::Lines;
 use crate::sums::QuerySums;
-use crate::text::answer_text;
+use crate::text::text_in;
 use sqlite::Alter;
 use std::alloc::{AllocError, Global};
 use std::io::Write;
@@ -153,11 +153,14 @@ fn answer_over<S: Alter>(
     ensures stored { SaysAsStored (state_of S.Store engine.old.tables) (state_of S.Store engine.new.tables) (λ stored. AnswersStored engine.old.session.format query.now filters.now columns.now stored result) }
     ensures kinds { IfErr result IsOfTables }
 {
+    let format = engine.format();
     let filters = led_columns(alloc, engine, filters)?;
     let columns = led_columns(alloc, engine, columns)?;
     let lines = lines_of(alloc, engine, query, filters.as_slice(), columns.as_slice())?;
-    let text = answer_text(alloc, query, &lines)?;
-    Ok(text)
+    match text_in(alloc, query, &lines) {
+        Ok(text) => Ok(text),
+        Err(fault) => Err(report_fault(format, fault)),
+    }
 }
 
 /// The answer to a query. Whether each of its columns has a reading under the policy in force is what `Query::reads` answers.

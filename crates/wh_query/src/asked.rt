@@ -2,8 +2,10 @@
 
 ghost use Rattle.std.specs.Prelude.{◌≡◌, ◌&&◌, ◌++◌, ◌∷◌, [], OnOk, IfOk, string_bytes, bytes_eq};
 ghost use Rattle.wh_report.specs.Request.{has_reading};
-ghost use Rattle.wh_query.specs.Asked.{alone, condition_columns, have_readings, query_reads, is_between, same_column, accepts, holds_from, holds, is_of_date, column_name, words_of};
+ghost use Rattle.wh_query.specs.Asked.{alone, condition_columns, have_readings, query_reads, in_form, is_between, same_column, accepts, holds_from, holds, is_of_date, column_name, words_of};
+ghost use Rattle.wh_query.specs.declared.form.Form.TheVariants.{Csv};
 
+use crate::form::Form;
 use std::alloc::{AllocError, Global};
 use std::marker::Model;
 use wh_batch::Mode;
@@ -139,6 +141,7 @@ pub struct Query {
     pub(crate) conditions: Vec<Condition>,
     pub(crate) from: Day,
     pub(crate) to: Day,
+    pub(crate) form: Form,
 }
 
 impl Model for Query {
@@ -146,7 +149,7 @@ impl Model for Query {
 
     ghost Value = { QueryAsked };
 
-    ghost view = { λ q. record { columns = q.columns.items; conditions = q.conditions.items; from = q.from; to = q.to } };
+    ghost view = { λ q. record { columns = q.columns.items; conditions = q.conditions.items; from = q.from; to = q.to; form = q.form } };
 }
 
 /// Whether each of some columns has a reading under a policy.
@@ -193,16 +196,25 @@ fn holds(conditions: &[Condition], labels: &[&str]) -> bool
 }
 
 impl Query {
-    /// The query of the range of days without a column and without a condition.
+    /// The query of the range of days without a column and without a condition, answered as CSV.
     pub fn new(alloc: Global, from: Day, to: Day) -> Query
-        ensures { result ≡ record { columns = []; conditions = []; from = from; to = to } }
+        ensures { result ≡ record { columns = []; conditions = []; from = from; to = to; form = Csv } }
     {
         Query {
             columns: Vec::new(alloc),
             conditions: Vec::new(alloc),
             from,
             to,
+            form: Form::Csv,
         }
+    }
+
+    /// The same query with its answer in this form.
+    pub fn in_form(mut self, form: Form) -> Query
+        ensures { result ≡ in_form form self }
+    {
+        self.form = form;
+        self
     }
 
     /// With a further column.
@@ -241,6 +253,13 @@ impl Query {
         ensures { result.now ≡ self.now.conditions }
     {
         self.conditions.as_slice()
+    }
+
+    /// The form of the answer.
+    pub fn form(&self) -> Form
+        ensures { result ≡ self.now.form }
+    {
+        self.form
     }
 
     /// Whether a day is one of the range.

@@ -1,6 +1,6 @@
 //! What holds of every query. The laws speak of the definitions alone and do nothing.
 
-ghost use Rattle.wh_query.specs.Laws.{ReportsHaveLines, ReportsAreQueries, LinesAddUp, SumsAgree, SlicesAreLines, AnyOrder, LinesRise, QueriesHaveReadings, NoModeIsNeeded, ReadAsRequests};
+ghost use Rattle.wh_query.specs.Laws.{ReportsHaveLines, ReportsAreQueries, LinesAddUp, SumsAgree, TablesEndWithTotals, TablesAreReports, SlicesAreLines, AnyOrder, LinesRise, QueriesHaveReadings, NoModeIsNeeded, ReadAsRequests};
 
 /// What a report sums are lines, by labels that are texts. By one column and without conditions the lines of a query are those of
 /// the report by this column.
@@ -13,6 +13,13 @@ pub fn reports_are_queries()
 pub fn lines_add_up()
     ensures up { LinesAddUp }
     ensures agree { SumsAgree }
+{}
+
+/// A table ends with the line of what the sales of the slice come to. By one column and without conditions it is, under its own
+/// titles, what the report by this column prints.
+pub fn tables_are_reports()
+    ensures totals { TablesEndWithTotals }
+    ensures reports { TablesAreReports }
 {}
 
 /// A slice by a label has just those lines of the query by the label's column, too, that begin with the label.

@@ -5,6 +5,7 @@ ghost use Rattle.wh_day.specs.Reading.{Gives};
 ghost use Rattle.wh_query.specs.Reading.{mode_meant, read_column, read_condition, read_each, read_query};
 
 use crate::asked::{Column, Condition, Query};
+use crate::form::Form;
 use std::alloc::Global;
 use wh_batch::{ColumnWords, ConditionWords, Mode};
 use wh_day::ParseError;
@@ -92,7 +93,7 @@ fn read_conditions(
 
 impl Query {
     /// The query by these columns of the sales from one day to another, both included and written `YYYY-MM-DD`, where the
-    /// conditions hold; or the first fault: that of the first column, and then of the first condition, for which
+    /// conditions hold, answered as CSV; or the first fault: that of the first column, and then of the first condition, for which
     /// `Request::read` refuses the report. `Memory`: a growth was refused.
     #[tactic(auto, unfolding(crate::specs::Reading::read_query))]
     pub fn read(
@@ -115,6 +116,7 @@ impl Query {
             conditions,
             from: first,
             to: last,
+            form: Form::Csv,
         })
     }
 }

@@ -1,15 +1,19 @@
 //! The text of an answer.
 
-ghost use Rattle.std.specs.Prelude.{◌≡◌, ◌++◌, ◌∷◌, [], IfOk, OnOk, map};
+ghost use Rattle.std.specs.Prelude.{◌≡◌, ◌++◌, ◌∷◌, [], IfOk, IfErr, OnOk, map};
 ghost use Rattle.std.specs.Fmt.{decimal, signed_decimal};
 ghost use Rattle.csv.specs.Records.{fields_of};
 ghost use Rattle.wh_report.specs.Sums.{margin};
 ghost use Rattle.wh_report.specs.Text.{money};
 ghost use Rattle.wh_query.specs.Asked.{words_of, column_name};
-ghost use Rattle.wh_query.specs.Answer.{line_fields, header_fields, answer_text};
+ghost use Rattle.wh_query.specs.Answer.{line_fields, header_fields, answer_text, text_in};
+ghost use Rattle.wh_query.specs.Answered.{IsUntold};
 
 use crate::asked::{Column, Query};
+use crate::fault::SaleFault;
+use crate::form::Form;
 use crate::lines::Lines;
+use crate::table::table_text;
 use csv::StringRecord;
 use itoa::Buffer;
 use std::alloc::{AllocError, Global};
@@ -105,11 +109,7 @@ fn header_fields(alloc: Global, columns: &[Column]) -> Result<StringRecord, Allo
 }
 
 /// The header, and a line for each tuple of labels.
-pub(crate) fn answer_text(
-    alloc: Global,
-    query: &Query,
-    lines: &Lines,
-) -> Result<Vec<u8>, AllocError>
+fn answer_text(alloc: Global, query: &Query, lines: &Lines) -> Result<Vec<u8>, AllocError>
     ensures { IfOk result (λ text. text.items ≡ answer_text query.now.columns lines.now) }
 {
     let mut text = CsvBuffer::new(alloc);
@@ -118,4 +118,18 @@ pub(crate) fn answer_text(
         text.add_fields(line_fields(alloc, labels, totals)?)?;
     }
     Ok(text.into_lines())
+}
+
+/// The text in the form that is asked for.
+pub(crate) fn text_in(alloc: Global, query: &Query, lines: &Lines) -> Result<Vec<u8>, SaleFault>
+    ensures text { IfOk result (λ text. text.items ≡ text_in query.now.form query.now.columns lines.now) }
+    ensures untold { IfErr result (IsUntold lines.now) }
+{
+    match query.form() {
+        Form::Csv => {
+            let text = answer_text(alloc, query, lines)?;
+            Ok(text)
+        }
+        Form::Table => table_text(alloc, query, lines),
+    }
 }

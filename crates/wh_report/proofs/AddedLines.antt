@@ -61,7 +61,7 @@ plus_second m t u =
     let k : t.cost +ℤ (u.cost +ℤ m.cost) ≡ (t.cost +ℤ u.cost) +ℤ m.cost = omega (arith, ints) in
     rw (n, q, a, k) refl
 
-nothing_first : (t : Figures) → plus nothing t ≡ t
+pub nothing_first : (t : Figures) → plus nothing t ≡ t
 nothing_first t =
     let n : 0 + t.lines ≡ t.lines = omega arith in
     let q : pos 0 +ℤ t.quantity ≡ t.quantity = omega (arith, ints) in

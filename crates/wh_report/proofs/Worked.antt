@@ -13,7 +13,7 @@ use Rattle.wh_report.specs.Subject.{subject_in}
 use Rattle.wh_report.specs.Lines.{lines}
 use Rattle.wh_report.specs.Summary.{Sold, summed}
 use Rattle.wh_report.specs.Sums.{margin}
-use Rattle.wh_report.specs.Text.{aligned, hundredths, money, line_text, summary_text, heading, report_text}
+use Rattle.wh_report.specs.Text.{aligned, hundredths, money, line_text, summary_text, titles, heading, report_text}
 use Rattle.wh_batch.specs.Mode.{mode_of_word}
 use Rattle.wh_batch.specs.declared.mode.Mode.TheVariants.{Was, Is, Prior}
 use Rattle.wh_report.specs.declared.request.RequestFault.TheVariants.{NoAttribute, NoReading, NoDateReading, BadRange}
@@ -122,7 +122,7 @@ by_age_band : report_text (codes "customer.age_band") (codes "was") (codes "2023
     ++ codes "       2          3           7.50           4.80           2.70  (no card)\n"
     ++ codes "       1          1          10.00           7.00           3.00  30-39\n"
     ++ codes "       3          4          17.50          11.80           5.70  total\n"
-unfolding report_text heading summed lines summary_text line_text money hundredths aligned digits
+unfolding report_text heading titles summed lines summary_text line_text money hundredths aligned digits
 by_age_band = refl
 
 -- the two lines of the first report add up to its total
@@ -147,7 +147,7 @@ by_category_as_it_was : report_text (codes "product.category") (codes "was") (co
     ≡ codes "report product.category was 2023-01-01 2026-12-31\n" ++ titles
     ++ codes "       4          5          20.00          13.40           6.60  Drinks\n"
     ++ codes "       4          5          20.00          13.40           6.60  total\n"
-unfolding report_text heading summed lines summary_text line_text money hundredths aligned digits
+unfolding report_text heading titles summed lines summary_text line_text money hundredths aligned digits
 by_category_as_it_was = refl
 
 by_category_as_it_is : report_text (codes "product.category") (codes "is") (codes "2023-01-01") (codes "2026-12-31")
@@ -156,7 +156,7 @@ by_category_as_it_is : report_text (codes "product.category") (codes "is") (code
     ++ codes "       1          1          10.00           7.00           3.00  Drinks\n"
     ++ codes "       3          4          10.00           6.40           3.60  Soft drinks\n"
     ++ codes "       4          5          20.00          13.40           6.60  total\n"
-unfolding report_text heading summed lines summary_text line_text money hundredths aligned digits
+unfolding report_text heading titles summed lines summary_text line_text money hundredths aligned digits
 by_category_as_it_is = refl
 
 by_supplier : report_text (codes "product.supplier") (codes "prior") (codes "2023-01-01") (codes "2026-12-31")
@@ -165,7 +165,7 @@ by_supplier : report_text (codes "product.supplier") (codes "prior") (codes "202
     ++ codes "       1          1          10.00           7.00           3.00  (none)\n"
     ++ codes "       3          4          10.00           6.40           3.60  East\n"
     ++ codes "       4          5          20.00          13.40           6.60  total\n"
-unfolding report_text heading summed lines summary_text line_text money hundredths aligned digits
+unfolding report_text heading titles summed lines summary_text line_text money hundredths aligned digits
 by_supplier = refl
 
 by_month_as_it_was : report_text (codes "date.month") (codes "was") (codes "2023-01-01") (codes "2026-12-31")
@@ -175,14 +175,14 @@ by_month_as_it_was : report_text (codes "date.month") (codes "was") (codes "2023
     ++ codes "       2          3           7.50           4.80           2.70  2024-02\n"
     ++ codes "       1          1          10.00           7.00           3.00  2024-06\n"
     ++ codes "       4          5          20.00          13.40           6.60  total\n"
-unfolding report_text heading summed lines summary_text line_text money hundredths aligned digits
+unfolding report_text heading titles summed lines summary_text line_text money hundredths aligned digits
 by_month_as_it_was = refl
 
 -- no sale is in the range
 of_no_sale : report_text (codes "product.category") (codes "is") (codes "2025-01-01") (codes "2025-12-31") []
     ≡ codes "report product.category is 2025-01-01 2025-12-31\n" ++ titles
     ++ codes "       0          0           0.00           0.00           0.00  total\n"
-unfolding report_text heading summed lines summary_text line_text money hundredths aligned digits
+unfolding report_text heading titles summed lines summary_text line_text money hundredths aligned digits
 of_no_sale = refl
 
 -- goods that were given back

@@ -13,7 +13,7 @@ use Rattle.wh_report.specs.Asked.{Asked}
 use Rattle.wh_report.specs.Label.{report}
 use Rattle.wh_report.specs.Lines.{lines}
 use Rattle.wh_report.specs.Summary.{summed}
-use Rattle.wh_report.specs.Text.{aligned, hundredths, money, line_text, summary_text, heading, report_text}
+use Rattle.wh_report.specs.Text.{aligned, hundredths, money, line_text, summary_text, titles, heading, report_text}
 use Rattle.wh_batch.specs.declared.mode.Mode.{Mode}
 use Rattle.wh_batch.specs.declared.mode.Mode.TheVariants.{Was, Is, Prior}
 use Rattle.wh_report.specs.declared.subject.Reading.TheVariants.{AtSaleDay, Latest, PriorValue}
@@ -89,7 +89,7 @@ by_age_band_then : report commands age_band AtSaleDay (of_four_years (codes "cus
     ++ codes "       2          3           7.50           4.80           2.70  (no card)\n"
     ++ codes "       1          1          10.00           7.00           3.00  30-39\n"
     ++ codes "       3          4          17.50          11.80           5.70  total\n"
-unfolding policy_on_literals report_text heading summed lines summary_text line_text money hundredths aligned digits
+unfolding policy_on_literals report_text heading titles summed lines summary_text line_text money hundredths aligned digits
 by_age_band_then = refl
 
 by_age_band_now : report commands age_band Latest (of_four_years (codes "customer.age_band") Is)
@@ -97,14 +97,14 @@ by_age_band_now : report commands age_band Latest (of_four_years (codes "custome
     ++ codes "       2          3           7.50           4.80           2.70  (no card)\n"
     ++ codes "       1          1          10.00           7.00           3.00  40-49\n"
     ++ codes "       3          4          17.50          11.80           5.70  total\n"
-unfolding policy_on_literals report_text heading summed lines summary_text line_text money hundredths aligned digits
+unfolding policy_on_literals report_text heading titles summed lines summary_text line_text money hundredths aligned digits
 by_age_band_now = refl
 
 by_category_then : report later category AtSaleDay (of_four_years (codes "product.category") Was)
     ≡ codes "report product.category was 2023-01-01 2026-12-31\n" ++ titles
     ++ codes "       4          5          20.00          13.40           6.60  Drinks\n"
     ++ codes "       4          5          20.00          13.40           6.60  total\n"
-unfolding policy_on_literals report_text heading summed lines summary_text line_text money hundredths aligned digits
+unfolding policy_on_literals report_text heading titles summed lines summary_text line_text money hundredths aligned digits
 by_category_then = refl
 
 by_month_without_the_line : report withdrawn Month AtSaleDay (of_four_years (codes "date.month") Was)
@@ -113,7 +113,7 @@ by_month_without_the_line : report withdrawn Month AtSaleDay (of_four_years (cod
     ++ codes "       1          1           2.50           1.60           0.90  2024-02\n"
     ++ codes "       1          1          10.00           7.00           3.00  2024-06\n"
     ++ codes "       3          3          15.00          10.20           4.80  total\n"
-unfolding policy_on_literals report_text heading summed lines summary_text line_text money hundredths aligned digits
+unfolding policy_on_literals report_text heading titles summed lines summary_text line_text money hundredths aligned digits
 by_month_without_the_line = refl
 
 by_category_now : report later category Latest (of_four_years (codes "product.category") Is)
@@ -121,13 +121,13 @@ by_category_now : report later category Latest (of_four_years (codes "product.ca
     ++ codes "       1          1          10.00           7.00           3.00  Drinks\n"
     ++ codes "       3          4          10.00           6.40           3.60  Soft drinks\n"
     ++ codes "       4          5          20.00          13.40           6.60  total\n"
-unfolding policy_on_literals report_text heading summed lines summary_text line_text money hundredths aligned digits
+unfolding policy_on_literals report_text heading titles summed lines summary_text line_text money hundredths aligned digits
 by_category_now = refl
 
 by_category_in_2025 : report later category Latest (record { words = codes "product.category"; mode = Is; from = 20250101; to = 20251231 })
     ≡ codes "report product.category is 2025-01-01 2025-12-31\n" ++ titles
     ++ codes "       0          0           0.00           0.00           0.00  total\n"
-unfolding policy_on_literals report_text heading summed lines summary_text line_text money hundredths aligned digits
+unfolding policy_on_literals report_text heading titles summed lines summary_text line_text money hundredths aligned digits
 by_category_in_2025 = refl
 
 by_supplier_before : report later supplier PriorValue (of_four_years (codes "product.supplier") Prior)
@@ -135,7 +135,7 @@ by_supplier_before : report later supplier PriorValue (of_four_years (codes "pro
     ++ codes "       1          1          10.00           7.00           3.00  (none)\n"
     ++ codes "       3          4          10.00           6.40           3.60  East\n"
     ++ codes "       4          5          20.00          13.40           6.60  total\n"
-unfolding policy_on_literals report_text heading summed lines summary_text line_text money hundredths aligned digits
+unfolding policy_on_literals report_text heading titles summed lines summary_text line_text money hundredths aligned digits
 by_supplier_before = refl
 
 by_month : report later Month AtSaleDay (of_four_years (codes "date.month") Was)
@@ -144,7 +144,7 @@ by_month : report later Month AtSaleDay (of_four_years (codes "date.month") Was)
     ++ codes "       2          3           7.50           4.80           2.70  2024-02\n"
     ++ codes "       1          1          10.00           7.00           3.00  2024-06\n"
     ++ codes "       4          5          20.00          13.40           6.60  total\n"
-unfolding policy_on_literals report_text heading summed lines summary_text line_text money hundredths aligned digits
+unfolding policy_on_literals report_text heading titles summed lines summary_text line_text money hundredths aligned digits
 by_month = refl
 
 -- the last day of February is the last of the range; no record describes the store, and no day is a holiday
@@ -152,12 +152,12 @@ by_city_in_february : report later city AtSaleDay (record { words = codes "store
     ≡ codes "report store.city was 2024-02-01 2024-02-29\n" ++ titles
     ++ codes "       2          3           7.50           4.80           2.70  (unknown)\n"
     ++ codes "       2          3           7.50           4.80           2.70  total\n"
-unfolding policy_on_literals report_text heading summed lines summary_text line_text money hundredths aligned digits
+unfolding policy_on_literals report_text heading titles summed lines summary_text line_text money hundredths aligned digits
 by_city_in_february = refl
 
 by_holiday : report later Holiday AtSaleDay (of_four_years (codes "date.holiday") Is)
     ≡ codes "report date.holiday is 2023-01-01 2026-12-31\n" ++ titles
     ++ codes "       4          5          20.00          13.40           6.60  (none)\n"
     ++ codes "       4          5          20.00          13.40           6.60  total\n"
-unfolding policy_on_literals report_text heading summed lines summary_text line_text money hundredths aligned digits
+unfolding policy_on_literals report_text heading titles summed lines summary_text line_text money hundredths aligned digits
 by_holiday = refl

@@ -39,11 +39,15 @@ lines_text = flat_map (λ l. line_text l.0 l.1)
 unfoldable pub summary_text : Summed → List ℕ
 summary_text s = lines_text s.lines ++ line_text (codes "total") s.total
 
--- the request in the words that it was made with, and the titles of the columns
+-- the titles of the columns, and what stands over the labels
+unfoldable pub titles : List ℕ → List ℕ
+titles label = codes "   lines   quantity         amount           cost         margin  " ++ (label ++ codes "\n")
+
+-- the request in the words that it was made with, and the titles
 unfoldable pub heading : List ℕ → List ℕ → List ℕ → List ℕ → List ℕ
 heading attribute mode from to =
     codes "report" then attribute then mode then from
-    then to ++ codes "\n   lines   quantity         amount           cost         margin  label\n"
+    then to ++ (codes "\n" ++ titles (codes "label"))
 
 -- what the sales of the range come to
 unfoldable pub report_text : List ℕ → List ℕ → List ℕ → List ℕ → List Sold → List ℕ

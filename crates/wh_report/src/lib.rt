@@ -32,5 +32,5 @@ pub use sales_report::{report, write, write_worked};
 pub use subject::{Reading, SlotAttribute, Subject, reading_of, subject_in};
 pub use summary::{AddError, Summary};
 pub use table_texts::{DumpedTable, dimension_text, header_line, row_line, table_text};
-pub use text::{money, report_text};
+pub use text::{line_text, money, report_text, titles};
 pub use totals::{Measures, Totals};

@@ -3,7 +3,7 @@
 ghost use Rattle.std.specs.Prelude.{◌≡◌, List, IfOk, string_bytes, decimal};
 ghost use Rattle.std.specs.Fmt.{signed_decimal};
 ghost use Rattle.wh_report.specs.Summary.{Sold, summed};
-ghost use Rattle.wh_report.specs.Text.{aligned, hundredths, money, line_text, lines_text, summary_text, heading, report_text};
+ghost use Rattle.wh_report.specs.Text.{aligned, hundredths, money, line_text, lines_text, summary_text, titles, heading, report_text};
 ghost use Rattle.wh_report.specs.Label.{text_asked};
 
 use crate::request::Request;
@@ -67,9 +67,9 @@ fn money_cell(alloc: Global, amount: i64) -> Result<String, AllocError>
     aligned(alloc, 14, text.as_str())
 }
 
-/// A line of a report.
+/// A line of a report: the figures at the right of their columns, and the label behind them.
 #[tactic(auto, unfolding(crate::specs::Text::line_text))]
-fn line_text(alloc: Global, label: &str, totals: Totals) -> Result<String, AllocError>
+pub fn line_text(alloc: Global, label: &str, totals: Totals) -> Result<String, AllocError>
     ensures { IfOk result (λ s. string_bytes s ≡ line_text label.now totals) }
 {
     let lines = lines_cell(alloc, totals.lines())?;
@@ -97,6 +97,14 @@ impl Summary {
     }
 }
 
+/// The titles of the columns, with this one over the labels.
+#[tactic(auto, unfolding(crate::specs::Text::titles))]
+pub fn titles(alloc: Global, label: &str) -> Result<String, AllocError>
+    ensures { IfOk result (λ s. string_bytes s ≡ titles label.now) }
+{
+    format!(in alloc; "   lines   quantity         amount           cost         margin  {label}\n")
+}
+
 /// The words of a request, and the titles of the columns.
 #[tactic(auto, unfolding(crate::specs::Text::heading))]
 fn heading(
@@ -108,9 +116,8 @@ fn heading(
 ) -> Result<String, AllocError>
     ensures { IfOk result (λ s. string_bytes s ≡ heading attribute.now mode.now from.now to.now) }
 {
-    format!(in alloc;
-        "report {attribute} {mode} {from} {to}\n   lines   quantity         amount           cost         margin  label\n"
-    )
+    let titles = titles(alloc, "label")?;
+    format!(in alloc; "report {attribute} {mode} {from} {to}\n{titles}")
 }
 
 /// The words of a request, and what the sales come to.
