@@ -24,7 +24,7 @@ use Rattle.wh_engine.specs.declared.fault.Fault.TheVariants as fault
 use Rattle.wh_engine.specs.declared.session.Session.{Session}
 use Rattle.wh_policy.specs.declared.attribute.Dim.{Dim}
 use Rattle.wh_query.specs.Answered.{Answers}
-use Rattle.wh_query.specs.Asked.{QueryAsked}
+use Rattle.wh_query.specs.Asked.{QueryAsked, in_form}
 use Rattle.wh_records.specs.Parts.{IsPartAt}
 use Rattle.wh_records.specs.declared.part.Part.{Part}
 use Rattle.wh_report.specs.Asked.{Asked}
@@ -40,7 +40,7 @@ use Rattle.wh_report.specs.declared.request.RequestFault.TheVariants.{NoAttribut
 use Rattle.wh_report.specs.declared.subject.Subject.{Subject}
 use Rattle.wh_program.specs.Answer.{Printed, done, refused}
 use Rattle.wh_program.specs.Reply.{fault_answer, records_answer, request_line, report_answer}
-use Rattle.wh_program.specs.Readings.{LeavesRead, asked_under, asked_answer, queried_under, queried_answer, query_answered, records_answered, IsAnsweredBy, answer_after, TellsLines, SaysStop, SaysWriteFailed}
+use Rattle.wh_program.specs.Readings.{LeavesRead, asked_under, asked_answer, queried_under, form_asked, queried_answer, query_answered, records_answered, IsAnsweredBy, answer_after, TellsLines, SaysStop, SaysWriteFailed}
 use Rattle.wh_program.specs.ReportsRead.{IsReadFor}
 use Rattle.wh_program.specs.Run.{Prints}
 use Rattle.wh_program.specs.Standing.{DatabaseContent, Nothing, Holds, Keeps, IsOfCommands, Standing, Unknown, Rests, IsAt, Stands}
@@ -135,9 +135,9 @@ module _ (words : QueryWords) (limits : Limits) (commands : List Accepted) (told
   IsQueried = IsReadFor (query_answered words commands) told limits commands session s
 
   -- it was worked out
-  pub queried : (q : QueryAsked) (worked : Result (Vec ℕ Global) ReportFault) → queried_under (current_policy commands) words ≡ Ok q → Answers commands q worked
+  pub queried : (q : QueryAsked) (worked : Result (Vec ℕ Global) ReportFault) → queried_under (current_policy commands) words ≡ Ok q → Answers commands (in_form (form_asked words.as_table) q) worked
       → IfOk told (λ a. a ≡ report_answer worked) → IsServing limits commands (of_warehouse worked) session s → IsQueried
-  queried q (Ok text) is answers tells serving = record { read = Ok tt; serves = serving; tells = IfOk-weaker told _ _ (λ a e. e ∙ ap done answers ∙ sym (ap (queried_answer commands) is)) tells }
+  queried q (Ok text) is answers tells serving = record { read = Ok tt; serves = serving; tells = IfOk-weaker told _ _ (λ a e. e ∙ ap done answers ∙ sym (ap (queried_answer commands (form_asked words.as_table)) is)) tells }
   queried q (Err report.Write) is none tells serving = absurd none
   queried q (Err (report.Warehouse why)) is wanting tells serving = record { read = Err why; serves = serving; tells = tells }
   queried q (Err (report.Unwritten why)) is none tells serving = absurd none
@@ -145,7 +145,7 @@ module _ (words : QueryWords) (limits : Limits) (commands : List Accepted) (told
 
   -- or it can't be asked for
   pub no_query : (why : RequestFault) → queried_under (current_policy commands) words ≡ Err why → IfOk told (λ a. a ≡ refused (request_line why)) → IsReady limits commands session s → IsQueried
-  no_query why is tells ready = record { read = Ok tt; serves = (refl, ready); tells = IfOk-weaker told _ _ (λ a e. e ∙ sym (ap (queried_answer commands) is)) tells }
+  no_query why is tells ready = record { read = Ok tt; serves = (refl, ready); tells = IfOk-weaker told _ _ (λ a e. e ∙ sym (ap (queried_answer commands (form_asked words.as_table)) is)) tells }
 
 -- ---- records
 

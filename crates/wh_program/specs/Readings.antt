@@ -1,5 +1,5 @@
 -- What a report and a dump of a warehouse answer and leave.
-use Rattle.std.specs.Prelude.{◌≡◌, ◌⊎◌, ◌++◌, ℕ, List, Option, Result, Ok, Err, IsOk, IfOk, take}
+use Rattle.std.specs.Prelude.{◌≡◌, ◌⊎◌, ◌++◌, ℕ, Bool, true, false, List, Option, Result, Ok, Err, IsOk, IfOk, take}
 use Rattle.std.specs.Io.KnownBytes.{Appends}
 use Rattle.std.specs.List.{concat}
 use Rattle.wh_policy.specs.declared.policy.Policy.{Policy}
@@ -14,8 +14,10 @@ use Rattle.wh_engine.specs.declared.fault.Fault.{Fault}
 use Rattle.wh_policy.specs.Policy.{policy_attributes}
 use Rattle.wh_policy.specs.declared.attribute.Dim.{Dim}
 use Rattle.wh_query.specs.Answer.{query}
-use Rattle.wh_query.specs.Asked.{QueryAsked}
+use Rattle.wh_query.specs.Asked.{QueryAsked, in_form}
 use Rattle.wh_query.specs.Reading.{read_query}
+use Rattle.wh_query.specs.declared.form.Form.{Form}
+use Rattle.wh_query.specs.declared.form.Form.TheVariants as form
 use Rattle.wh_records.specs.Parts.{part_at}
 use Rattle.wh_records.specs.Texts.{records_text}
 use Rattle.wh_report.specs.Asked.{Asked}
@@ -75,13 +77,18 @@ AnswersReport refuses stands content file words told = AnswersWork refuses stand
 abbrev pub queried_under : Policy → QueryWords → Result QueryAsked RequestFault
 queried_under policy words = read_query policy words.columns words.conditions words.from words.to
 
--- the answer to the query that is asked for, or what is wrong with the words
-abbrev pub queried_answer : List Accepted → Result QueryAsked RequestFault → Printed
-queried_answer commands (Ok q) = done (query commands q)
-queried_answer commands (Err fault) = refused (request_line fault)
+-- the form of the answer: a table where one is wanted
+abbrev pub form_asked : Bool → Form
+form_asked true = form.Table
+form_asked false = form.Csv
+
+-- the answer to the query that is asked for, in a form, or what is wrong with the words
+abbrev pub queried_answer : List Accepted → Form → Result QueryAsked RequestFault → Printed
+queried_answer commands form (Ok q) = done (query commands (in_form form q))
+queried_answer commands form (Err fault) = refused (request_line fault)
 
 abbrev pub query_answered : QueryWords → List Accepted → Printed
-query_answered words commands = queried_answer commands (queried_under (current_policy commands) words)
+query_answered words commands = queried_answer commands (form_asked words.as_table) (queried_under (current_policy commands) words)
 
 abbrev pub AnswersQuery : Refusals → (Standing → Type 0) → DatabaseContent → (file : List ℕ) → QueryWords → Told → Type 0
 AnswersQuery refuses stands content file words told = AnswersWork refuses stands (IsAnsweredBy (query_answered words)) content file told

@@ -3,7 +3,7 @@
 ghost use Rattle.std.specs.Prelude.{◌≡◌, List, Some};
 ghost use Rattle.wh_admission.specs.Admission.{current_policy};
 ghost use Rattle.wh_engine.specs.Scanned.{WasClean, WhenReady};
-ghost use Rattle.wh_program.specs.Readings.{AnswersQuery, IsAnsweredBy, query_answered};
+ghost use Rattle.wh_program.specs.Readings.{AnswersQuery, IsAnsweredBy, form_asked, query_answered};
 ghost use Rattle.wh_program.specs.ReportsRead.{IsReadFor};
 ghost use Rattle.wh_words.specs.Request.{query_words};
 ghost use Rattle.wh_program.specs.Standing.{DatabaseContent, Rests};
@@ -18,8 +18,15 @@ use sqlite::Alter;
 use std::alloc::{AllocError, Global};
 use wh_day::ParseError;
 use wh_engine::Engine;
-use wh_query::{Query, query};
+use wh_query::{Form, Query, query};
 use wh_words::AskedQuery;
+
+/// The form of the answer.
+fn form_of(as_table: bool) -> Form
+    ensures { result ≡ form_asked as_table }
+{
+    if as_table { Form::Table } else { Form::Csv }
+}
 
 /// The answer to the words of a query, over a warehouse that is open.
 fn query_answer<S: Alter>(
@@ -36,7 +43,10 @@ fn query_answer<S: Alter>(
     let columns = asked.columns.as_slice();
     let conditions = asked.conditions.as_slice();
     match Query::read(alloc, policy, columns, conditions, from, to) {
-        Ok(read) => report_answer(alloc, query(alloc, engine, &read)),
+        Ok(read) => {
+            let wanted = read.in_form(form_of(asked.as_table));
+            report_answer(alloc, query(alloc, engine, &wanted))
+        }
         Err(ParseError::Fault(fault)) => request_answer(alloc, fault),
         Err(ParseError::Memory) => Err(AllocError),
     }

@@ -289,3 +289,105 @@ run check k
 = clean
 = status 0
 "#;
+
+/// Tables, after those. Worked by hand: a description of more than 24 characters with quotes and a comma, a city with an umlaut, and a brand that is called as the last line is.
+pub const TABLES: &str = r#"
+file a-st.csv
+> id,day,city
+> S1,2023-01-01,"Bern, Gare"
+> S2,2023-01-01,Zürich
+file a-p.csv
+> id,day,description,brand,category,department,launched,supplier
+> P1,2023-01-01,"Coffee ""Genf"", whole beans",Acme,Drinks,Grocery,2019,North
+> P2,2023-01-01,Tea,total,Drinks,Grocery,2019,North
+file a-s.csv
+> ticket,line,day,store,product,customer,quantity,amount,cost
+> T1,1,2024-01-15,S1,P1,,2,19.00,12.40
+> T1,2,2024-01-15,S1,P2,,1,3.50,1.15
+> T2,1,2024-02-10,S2,P1,,-1,-9.50,-6.20
+> T3,1,2024-02-20,S2,P2,,4,14.00,4.60
+run init a flat.toml
+= accepted 1 init: 0 records, 0 placeholders
+= status 0
+run query a 2024-01-01 2024-12-31 date.month --table
+=    lines   quantity         amount           cost         margin  date.month
+=        0          0           0.00           0.00           0.00  total
+= status 0
+run load a store st a-st.csv
+= accepted 2 st: 2 records, 0 placeholders
+= status 0
+run load a product p a-p.csv
+= accepted 3 p: 2 records, 0 placeholders
+= status 0
+run load a sales s a-s.csv
+= accepted 4 s: 4 records, 0 placeholders
+= status 0
+
+# Labels side by side, each but the last at the left of 24 characters.
+run query a 2024-01-01 2024-12-31 product.description store.city --table
+=    lines   quantity         amount           cost         margin  product.description:was  store.city:was
+=        1          2          19.00          12.40           6.60  Coffee "Genf", whole beans Bern, Gare
+=        1         -1          -9.50          -6.20          -3.30  Coffee "Genf", whole beans Zürich
+=        1          1           3.50           1.15           2.35  Tea                      Bern, Gare
+=        1          4          14.00           4.60           9.40  Tea                      Zürich
+=        4          6          27.00          11.95          15.05  total
+= status 0
+run query --table a 2024-01-01 2024-12-31 store.city product.brand
+=    lines   quantity         amount           cost         margin  store.city:was           product.brand:was
+=        1          2          19.00          12.40           6.60  Bern, Gare               Acme
+=        1          1           3.50           1.15           2.35  Bern, Gare               total
+=        1         -1          -9.50          -6.20          -3.30  Zürich                   Acme
+=        1          4          14.00           4.60           9.40  Zürich                   total
+=        4          6          27.00          11.95          15.05  total
+= status 0
+
+# By one column its lines are those of the report.
+run query a 2024-01-01 2024-12-31 product.brand --table
+=    lines   quantity         amount           cost         margin  product.brand:was
+=        2          1           9.50           6.20           3.30  Acme
+=        2          5          17.50           5.75          11.75  total
+=        4          6          27.00          11.95          15.05  total
+= status 0
+run report a product.brand was 2024-01-01 2024-12-31
+= report product.brand was 2024-01-01 2024-12-31
+=    lines   quantity         amount           cost         margin  label
+=        2          1           9.50           6.20           3.30  Acme
+=        2          5          17.50           5.75          11.75  total
+=        4          6          27.00          11.95          15.05  total
+= status 0
+
+# Of a slice, of one without a sale, and of none that can be asked for.
+run query a 2024-01-01 2024-12-31 date.month --table --where product.brand=Acme
+=    lines   quantity         amount           cost         margin  date.month
+=        1          2          19.00          12.40           6.60  2024-01
+=        1         -1          -9.50          -6.20          -3.30  2024-02
+=        2          1           9.50           6.20           3.30  total
+= status 0
+run query a 2024-01-01 2024-12-31 product.brand store.city --where product.brand=Nobody --table
+=    lines   quantity         amount           cost         margin  product.brand:was        store.city:was
+=        0          0           0.00           0.00           0.00  total
+= status 0
+run query a 2024-01-01 2024-12-31 product.color --table
+= refused: G1 no attribute
+= status 2
+run query a 2024-01-01 2024-12-31 product.brand --where store.city --table
+= error: --where is 'store.city', and none of ATTRIBUTE=LABEL and ATTRIBUTE:MODE=LABEL, with was, is or prior as MODE
+= status 4
+
+# In format 2, with a line that is withdrawn.
+file a-v.csv
+> ticket,line
+> T1,1
+run upgrade a u
+= accepted 5 u: 0 records, 0 placeholders
+= status 0
+run load a void v a-v.csv
+= accepted 6 v: 1 records, 0 placeholders
+= status 0
+run query a 2024-01-01 2024-12-31 date.month --table
+=    lines   quantity         amount           cost         margin  date.month
+=        1          1           3.50           1.15           2.35  2024-01
+=        2          3           4.50          -1.60           6.10  2024-02
+=        3          4           8.00          -0.45           8.45  total
+= status 0
+"#;

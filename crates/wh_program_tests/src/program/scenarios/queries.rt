@@ -3,10 +3,10 @@
 use crate::program::ProgramDriver;
 use std::test::Fail;
 use wh_scenarios::check;
-use wh_scenarios::program::queries::{QUERIES, RECORDS, WORKED};
+use wh_scenarios::program::queries::{QUERIES, RECORDS, TABLES, WORKED};
 use wh_scenarios::program::reports::FILES;
 
 #[test]
 fn worked(rt: HostRuntime) -> Result<(), Fail> {
-    check::<ProgramDriver>(rt.alloc(), &[FILES, QUERIES, RECORDS, WORKED])
+    check::<ProgramDriver>(rt.alloc(), &[FILES, QUERIES, RECORDS, WORKED, TABLES])
 }
