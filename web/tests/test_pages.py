@@ -8,12 +8,15 @@ import sys
 import tempfile
 from html.parser import HTMLParser
 from pathlib import Path
-from unittest import mock
+from unittest import TestCase, mock
 from urllib.parse import parse_qs, urlencode
 
 from shops import PROGRAM, ROOT, STRANGE, WithFolder, make_shop, make_shop_of_profiles, make_strange, rows_of, wh
+from wh_web.columns import Column
 from wh_web.pages import Site, make_app
-from wh_web.session import Session
+from wh_web.question import Filter, Measure, Question, Range
+from wh_web.session import Answer, Session
+from wh_web.tables import total_of
 
 FIGURES = ["lines", "quantity", "amount", "cost", "margin"]
 YEAR = ("2024-01-01", "2024-12-31")
@@ -52,6 +55,26 @@ class Page(HTMLParser):
 def plain(text: str) -> str:
     """A figure of a page as the program prints it."""
     return text.replace("\u202f", "").replace("\u2212", "-")
+
+
+class Totals(TestCase):
+    """The total of a slice, where the program prints this table; it needs no program."""
+
+    TABLE = """\
+   lines   quantity         amount           cost         margin  date.month
+       2          1           9.50           6.20           3.30  2024-01
+       2 -123456789012     -17.50           5.75         -23.25  2024-02
+       4 -123456789011      -8.00          11.95         -19.95  total
+"""
+
+    def test_it_is_the_last_line(self) -> None:
+        session = mock.Mock()
+        session.ask.return_value = Answer(self.TABLE.splitlines(), 0)
+        brand = Column("product.brand:was", "product", "brand")
+        question = Question(brand, None, False, Measure.AMOUNT, Range(*YEAR), (Filter(brand, "total"), Filter(brand, "a b")))
+        self.assertEqual(total_of(session, question), dict(zip(FIGURES, ["4", "-123456789011", "-8.00", "11.95", "-19.95"])))
+        words = ["query", *YEAR, "date.month", "--where", "product.brand:was=total", "--where", "product.brand:was=a b", "--table"]
+        self.assertEqual(list(session.ask.call_args.args), words)
 
 
 class Asked(WithFolder):

@@ -5,7 +5,7 @@ from collections.abc import Sequence
 from dataclasses import dataclass, replace
 from decimal import Decimal
 
-from wh_web.columns import Column
+from wh_web.columns import MONTH, Column
 from wh_web.question import Filter, Measure, Question, Range, default_sort
 from wh_web.session import Asks, Keep, NoAnswer, NotAsked, every
 
@@ -88,17 +88,9 @@ def labels_of(session: Asks, column: Column, days: Range) -> list[str]:
 
 
 def total_of(session: Asks, question: Question) -> Figures:
-    """The figures of the whole slice: a report's total, or those of its labels in a column that has filters, which is most often one."""
-    if not question.filters:
-        attribute, _, reading = question.rows.word.partition(":")
-        words = asked(session, "report", attribute, reading or "was", question.days.first, question.days.last)[-1].split()
-        return dict(zip(FIGURES, words))
-    parts = [figures for _, figures in query(session, question, question.filters[0].column)]
-    return {key: _sum([it[key] for it in parts], key) for key in FIGURES}
-
-
-def _sum(figures: Sequence[str], key: str) -> str:
-    return str(sum(map(Decimal, figures), Decimal("0.00" if Measure(key).is_money else 0)))
+    """The figures of the whole slice: the last line of its table, which is the total by any column. By month there are few lines before it."""
+    words = [question.days.first, question.days.last, MONTH.word, *question.conditions(), "--table"]
+    return dict(zip(FIGURES, asked(session, "query", *words)[-1].split()))
 
 
 def table_of(session: Asks, question: Question, readings: Sequence[Column]) -> Table:
