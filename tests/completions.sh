@@ -79,6 +79,7 @@ wh trial --policy examples/flat.toml pro|trial --policy examples/flat.toml produ
 wh trial product examples/vo|trial product examples/voids.csv
 wh trial -- s|trial -- store
 wh query --wh|query --where
+wh query --t|query --table
 wh records f |records f product store customer
 wh nothing |nothing"
 
@@ -113,7 +114,7 @@ if is_there man man-db; then
     same "man" "$(LC_ALL=C.UTF-8 man --warnings -E UTF-8 -l "$work/made/wh.1" 2>&1 > "$work/page")" ""
     LC_ALL=C.UTF-8 MANWIDTH=500 man -l "$work/made/wh.1" | col -bx > "$work/page"
     for word in $(words "$program"); do
-        options=$("$program" help "$word" | sed -n 's/^ *\(--[a-z]*\) <\([A-Z]*\)>.*/[\1 \2]/p' | paste -sd ' ')
+        options=$("$program" help "$word" | sed -n 's/^ *\(--[a-z]*\) <\([A-Z]*\)>.*/[\1 \2]/p; s/^ *\(--[a-z]*\)  .*/[\1]/p' | paste -sd ' ')
         usage=$("$program" help "$word" | sed -n 's/^Usage: //p' | sed "s/\[OPTIONS\]/$options/; s/>\.\.\./ .../; s/[<>]//g")
         same "the page's usage of $word" "$(grep -c "^ *$(printf '%s' "$usage" | sed 's/[][]/\\&/g')$" "$work/page")" 1
     done

@@ -7,7 +7,7 @@ usage: queried.py [TRIES] [PROGRAM]
 A shop has attributes of each type and awkward texts as their values, sales without a card and of members that no record describes, and late records. It is
 asked in format 1; then, under a policy with other types, after an upgrade and with voids, in format 2. A try asks for one slice (a range of days, and up to
 twelve conditions) by one to six columns and by others: both answers are those of SQLite, and come to the same sums. The small shop is asked ten times as
-often: also by the label of a line, by one column as a report is, and what is refused. At last, programs that answer wrong have to be found. The same numbers
+often: also by the label of a line, by one column as a report is, as a table, and what is refused. At last, programs that answer wrong have to be found. The same numbers
 give the same tries.
 """
 
@@ -268,6 +268,15 @@ def totals(answer):
     return [sum(hundredths(row[place]) for row in lines_of(answer)) for place in range(-5, 0)]
 
 
+def line_of(label, sold, quantity, *money):
+    """A line of a report or a table."""
+    return f"{sold:8} {quantity:10} {'%14s %14s %14s' % tuple(money_text(it).decode() for it in money)}  {label}\n"
+
+
+def side_by_side(labels):
+    return "".join(f"{it:<24} " for it in labels[:-1]) + labels[-1]
+
+
 class Judge:
     """Asks a shop by a program, and tells the faults of the answers."""
 
@@ -310,9 +319,17 @@ class Judge:
             return faults
         rows = [[row[0], *map(hundredths, row[1:])] for row in lines_of(answer)]
         rows.append(["total", *(sum(row[place] for row in rows) for place in range(1, 6))])
-        text = "".join(f"{sold:8} {quantity:10} {'%14s %14s %14s' % tuple(money_text(it).decode() for it in money)}  {label}\n" for label, sold, quantity, *money in rows)
+        text = "".join(line_of(*row) for row in rows)
         told = run(["report", "w", *words])
         return [] if told.text.decode() == f"report {' '.join(words)}\n{REPORT}{text}" else [f"report {words}: {told}, and not {text}"]
+
+    def of_table(self, query):
+        """The lines as a table, with the total of the slice behind them."""
+        rows = [(side_by_side([bytes(it).decode() for it in labels]), sold, quantity, amount, cost, amount - cost) for *labels, sold, quantity, amount, cost in self.shop.sums(query)]
+        rows.append(("total", *(sum(row[place] for row in rows) for place in range(1, 6))))
+        text = REPORT.replace("label", side_by_side([it.name for it in query.columns])) + "".join(line_of(*row) for row in rows)
+        told = run([*query.words(), "--table"])
+        return [] if told == Answer(text.encode(), 0) else [f"{query.words()} as a table: {told}, and not {text}"]
 
     def of_refused(self, query):
         """With a column that has no reading, or a range of days that is none."""
@@ -369,7 +386,7 @@ def find(shop, wrong):
 
 for name, shop, tries, kinds in (
     ("195,000 facts", Shop(1, 39, 5000, 300), TRIES, [Judge.of_slice]),
-    ("2,000 facts", Shop(2, 2, 1000, 12), 10 * TRIES, [Judge.of_slice, Judge.of_label, Judge.of_report, Judge.of_refused]),
+    ("2,000 facts", Shop(2, 2, 1000, 12), 10 * TRIES, [Judge.of_slice, Judge.of_label, Judge.of_report, Judge.of_table, Judge.of_refused]),
 ):
     shop.make()
     try_shop(name, shop, (tries + 1) // 2, kinds)
