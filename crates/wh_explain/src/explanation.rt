@@ -80,7 +80,7 @@ pub fn add_kind(
     text.extend_from_slice(&lines)
 }
 
-fn mentions_text(
+fn warnings_text(
     alloc: Global,
     members: &[Edit<MemberRow, MemberKey>],
 ) -> Result<Vec<u8>, AllocError> {
@@ -89,15 +89,16 @@ fn mentions_text(
     Ok(text)
 }
 
-/// A line for each dimension: the members that sales mention for the first time, whose rows their edits put. The error comes where memory ran out.
-pub fn add_first_mentions(
+/// The lines on what may be a slip in a batch that would be accepted, by the members whose rows its edits put. The error comes where
+/// memory ran out.
+pub fn add_warnings(
     text: &mut Vec<u8>,
     alloc: Global,
     members: &[Edit<MemberRow, MemberKey>],
 ) -> Result<(), AllocError>
     ensures { OnOk result (Continues text.old.items text.new.items) }
 {
-    let lines = mentions_text(alloc, members)?;
+    let lines = warnings_text(alloc, members)?;
     text.extend_from_slice(&lines)
 }
 

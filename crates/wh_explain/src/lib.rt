@@ -19,7 +19,7 @@ mod row;
 mod shown;
 mod wanted;
 
-pub use explanation::{SentCommand, add_columns, add_first_mentions, add_kind, add_refusal};
+pub use explanation::{SentCommand, add_columns, add_kind, add_refusal, add_warnings};
 pub use header::push_names;
 pub use line::{TracedLines, refused_lines};
 pub use shown::push_number;

@@ -1,4 +1,4 @@
-//! The members that sales mention for the first time.
+//! The members that a batch is the first to mention.
 
 use crate::shown::{push_number, push_text};
 use std::alloc::AllocError;

@@ -1,8 +1,7 @@
 //! The answers that explain an input, or what a kind takes.
 
-ghost use Rattle.std.specs.Prelude.{◌≡◌, IfOk, OnOk, [], string_bytes};
+ghost use Rattle.std.specs.Prelude.{◌≡◌, IfOk, [], string_bytes};
 ghost use Rattle.wh_batch.specs.Layouts.{columns_of};
-ghost use Rattle.wh_explain.specs.Added.{Continues};
 ghost use Rattle.wh_program.specs.Answer.{done, refused};
 ghost use Rattle.wh_program.specs.Explained.{Begins, acceptable_line, preview_answer, header_line, first_of_batch, first_of_kind};
 ghost use Rattle.wh_program.specs.Reply.{refused_line};
@@ -12,8 +11,7 @@ use crate::lines::{fault_answer, push_refused};
 use std::alloc::{AllocError, Global};
 use wh_batch::{Column, CommandKind, Kind, columns_of};
 use wh_engine::{Fault, Preview, Receipt, Refusal};
-use wh_explain::{SentCommand, add_columns, add_first_mentions, add_kind, add_refusal, push_names};
-use wh_plan::Edits;
+use wh_explain::{SentCommand, add_columns, add_kind, add_refusal, add_warnings, push_names};
 use wh_policy::{Format, Policy};
 
 /// The line of an input that would be accepted.
@@ -25,27 +23,12 @@ fn acceptable_line(alloc: Global, receipt: &Receipt) -> Result<String, AllocErro
     format!(in alloc; "would be accepted: {records} records, {placeholders} placeholders\n")
 }
 
-/// The members that sales would mention for the first time: a mistyped key is one of them.
-fn add_mentions(
-    text: &mut Vec<u8>,
-    alloc: Global,
-    kind: CommandKind,
-    edits: &Edits,
-) -> Result<(), AllocError>
-    ensures { OnOk result (Continues text.old.items text.new.items) }
-{
-    match kind {
-        CommandKind::Batch(Kind::Sales) => add_first_mentions(text, alloc, &edits.members),
-        _ => Ok(()),
-    }
-}
-
 /// The answer to an input that would be accepted.
-fn acceptable(alloc: Global, kind: CommandKind, preview: &Preview) -> Result<Answer, AllocError>
+fn acceptable(alloc: Global, preview: &Preview) -> Result<Answer, AllocError>
     ensures { IfOk result (Begins (done (acceptable_line preview.now.receipt))) }
 {
     let mut text = acceptable_line(alloc, &preview.receipt)?.into_bytes();
-    add_mentions(&mut text, alloc, kind, &preview.edits)?;
+    add_warnings(&mut text, alloc, &preview.edits.members)?;
     Ok(Answer::new(Status::Done, text))
 }
 
@@ -68,7 +51,7 @@ pub fn explained(
     ensures { IfOk result (Begins (preview_answer preview)) }
 {
     match preview {
-        Ok(preview) => acceptable(alloc, sent.kind, &preview),
+        Ok(preview) => acceptable(alloc, &preview),
         Err(Fault::Refused(why)) => unacceptable(alloc, &why, sent),
         Err(fault) => fault_answer(alloc, fault),
     }

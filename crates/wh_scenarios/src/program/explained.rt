@@ -54,6 +54,7 @@ file good.csv
 > S1,2024-01-01,Bern
 run explain w store good.csv
 = would be accepted: 1 records, 0 placeholders
+= mentioned for the first time: store S1
 = status 0
 run explain w migrate policy.toml
 = would be accepted: 0 records, 0 placeholders
@@ -80,6 +81,17 @@ run explain v store good.csv
 # Lines that are there, and lines that aren't.
 run load w sales s1 s1.csv
 = accepted 2 s1: 2 records, 4 placeholders
+= status 0
+
+# Records of a store that a sale has mentioned, and two of one that is new, as a mistyped key is.
+file stores.csv
+> id,day,city
+> S9,2024-01-01,Bern
+> S0,2024-01-01,Basel
+> S0,2024-02-01,Bern
+run explain w store stores.csv
+= would be accepted: 3 records, 0 placeholders
+= mentioned for the first time: store S0
 = status 0
 run explain w sales s1.csv
 = refused: E6 line there, record 1
