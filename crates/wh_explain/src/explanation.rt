@@ -4,8 +4,10 @@ ghost use Rattle.std.specs.Prelude.{◌≡◌, OnOk};
 ghost use Rattle.wh_explain.specs.Added.{Continues};
 
 use crate::kind::push_kind;
+use crate::left_out::LeftOut;
 use crate::line::TracedLines;
 use crate::members::push_first_mentions;
+use crate::records::push_records;
 use crate::refused::push_refusal;
 use crate::row::push_column;
 use crate::shown::push_text;
@@ -30,6 +32,8 @@ pub struct SentCommand<'a> {
     pub bytes: &'a [u8],
     /// The lines of a batch that is refused for one of them, with the kept commands that were noted.
     pub lines: Option<TracedLines>,
+    /// The records of an acceptable batch that leave values out, with the kept records that were noted.
+    pub left_out: Option<LeftOut>,
 }
 
 fn columns_text(alloc: Global, columns: &[Column], years: Years) -> Result<Vec<u8>, AllocError> {
@@ -82,10 +86,12 @@ pub fn add_kind(
 
 fn warnings_text(
     alloc: Global,
+    sent: &SentCommand,
     members: &[Edit<MemberRow, MemberKey>],
 ) -> Result<Vec<u8>, AllocError> {
     let mut text = Vec::new(alloc);
     push_first_mentions(&mut text, members)?;
+    push_records(&mut text, alloc, sent)?;
     Ok(text)
 }
 
@@ -94,11 +100,12 @@ fn warnings_text(
 pub fn add_warnings(
     text: &mut Vec<u8>,
     alloc: Global,
+    sent: &SentCommand,
     members: &[Edit<MemberRow, MemberKey>],
 ) -> Result<(), AllocError>
     ensures { OnOk result (Continues text.old.items text.new.items) }
 {
-    let lines = warnings_text(alloc, members)?;
+    let lines = warnings_text(alloc, sent, members)?;
     text.extend_from_slice(&lines)
 }
 

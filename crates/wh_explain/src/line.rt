@@ -207,7 +207,7 @@ fn kind_of(row: &CommandRow) -> Option<Kind> {
 }
 
 /// The records of a batch without a fault.
-fn records_in(
+pub(crate) fn records_in(
     alloc: Global,
     kind: Kind,
     policy: &Policy,

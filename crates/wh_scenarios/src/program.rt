@@ -7,6 +7,7 @@ pub mod deliveries;
 pub mod dumps;
 pub mod explained;
 pub mod explained_faults;
+pub mod explained_warnings;
 pub mod lists;
 pub mod queries;
 pub mod refused_reports;

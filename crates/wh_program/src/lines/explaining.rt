@@ -24,11 +24,15 @@ fn acceptable_line(alloc: Global, receipt: &Receipt) -> Result<String, AllocErro
 }
 
 /// The answer to an input that would be accepted.
-fn acceptable(alloc: Global, preview: &Preview) -> Result<Answer, AllocError>
+fn acceptable(
+    alloc: Global,
+    preview: &Preview,
+    sent: &SentCommand,
+) -> Result<Answer, AllocError>
     ensures { IfOk result (Begins (done (acceptable_line preview.now.receipt))) }
 {
     let mut text = acceptable_line(alloc, &preview.receipt)?.into_bytes();
-    add_warnings(&mut text, alloc, &preview.edits.members)?;
+    add_warnings(&mut text, alloc, sent, &preview.edits.members)?;
     Ok(Answer::new(Status::Done, text))
 }
 
@@ -51,7 +55,7 @@ pub fn explained(
     ensures { IfOk result (Begins (preview_answer preview)) }
 {
     match preview {
-        Ok(preview) => acceptable(alloc, &preview),
+        Ok(preview) => acceptable(alloc, &preview, sent),
         Err(Fault::Refused(why)) => unacceptable(alloc, &why, sent),
         Err(fault) => fault_answer(alloc, fault),
     }

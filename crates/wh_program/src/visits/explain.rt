@@ -19,7 +19,8 @@ use crate::visits::warehouse::input_of;
 use sqlite::Alter;
 use std::alloc::{AllocError, Global};
 use wh_engine::{CommandKind, Engine, Fault, Preview, Refusal};
-use wh_explain::{SentCommand, TracedLines, refused_lines};
+use wh_explain::{LeftOut, SentCommand, TracedLines, left_out, refused_lines};
+use wh_plan::Edits;
 use wh_policy::{Format, Policy};
 use wh_rows::tables;
 use wh_store::Cursor;
@@ -58,6 +59,7 @@ fn lines_in<'a>(
         format,
         bytes,
         lines: None,
+        left_out: None,
     };
     refused_lines(alloc, why, &sent)
 }
@@ -78,24 +80,64 @@ fn lines_of<S: Alter>(
     }
 }
 
-/// What these bytes would be answered, and for refused lines the commands that sold and withdrew them. Where the kept commands
-/// can't be read, that is told in place of the refusal.
+/// Records that leave values out, with the kept records of their members.
+fn compared<S: Alter>(
+    alloc: Global,
+    engine: &mut Engine<S>,
+    mut left_out: LeftOut,
+) -> Result<Option<LeftOut>, Fault>
+    ensures { EngineReadsThrough S.Store engine.old engine.new result }
+{
+    let mut cursor = Cursor::new(alloc);
+    'records: for _ in 0..u64::MAX {
+        let Some(row) = engine.next_row::<tables::Change>(alloc, &mut cursor)? else {
+            return Ok(Some(left_out));
+        };
+        left_out.note(&row);
+    }
+    Err(Fault::Memory)
+}
+
+/// The records that leave values out in a batch that would write this, with the kept records of their members.
+fn left_out_of<S: Alter>(
+    alloc: Global,
+    engine: &mut Engine<S>,
+    kind: CommandKind,
+    edits: &Edits,
+) -> Result<Option<LeftOut>, Fault>
+    ensures { EngineReadsThrough S.Store engine.old engine.new result }
+{
+    match left_out(alloc, kind, engine.policy(), &edits.changes)? {
+        Some(left_out) => compared(alloc, engine, left_out),
+        None => Ok(None),
+    }
+}
+
+/// What these bytes would be answered; of refused lines the commands that sold and withdrew them, and of records that leave values
+/// out the kept records of their members. Where kept rows can't be read, that is told in place of the answer.
 fn traced<S: Alter>(
     alloc: Global,
     engine: &mut Engine<S>,
     kind: CommandKind,
     bytes: &[u8],
-) -> (Result<Preview, Fault>, Option<TracedLines>)
+) -> (
+    Result<Preview, Fault>,
+    Option<TracedLines>,
+    Option<LeftOut>,
+)
     ensures clean { WasClean S.Store engine.old.tables engine.new.tables }
     ensures previewed { WhenReady S.Store engine.old engine.new (λ limits commands. IsPreviewed limits commands kind bytes.now result.0) }
 {
     match engine.preview(alloc, kind, bytes) {
-        Ok(preview) => (Ok(preview), None),
-        Err(Fault::Refused(why)) => match lines_of(alloc, engine, &why, kind, bytes) {
-            Ok(lines) => (Err(Fault::Refused(why)), lines),
-            Err(fault) => (Err(fault), None),
+        Ok(preview) => match left_out_of(alloc, engine, kind, &preview.edits) {
+            Ok(left_out) => (Ok(preview), None, left_out),
+            Err(fault) => (Err(fault), None, None),
         },
-        Err(fault) => (Err(fault), None),
+        Err(Fault::Refused(why)) => match lines_of(alloc, engine, &why, kind, bytes) {
+            Ok(lines) => (Err(Fault::Refused(why)), lines, None),
+            Err(unread) => (Err(unread), None, None),
+        },
+        Err(fault) => (Err(fault), None, None),
     }
 }
 
@@ -110,13 +152,14 @@ impl Work for Explaining {
     ghost does = { λ explaining. IsExplained explaining.kind explaining.bytes.items };
 
     fn work<S: Alter>(self, alloc: Global, engine: &mut Engine<S>) -> Result<Answer, AllocError> {
-        let (preview, lines) = traced(alloc, engine, self.kind, &self.bytes);
+        let (preview, lines, left_out) = traced(alloc, engine, self.kind, &self.bytes);
         let sent = SentCommand {
             kind: self.kind,
             policy: engine.policy(),
             format: engine.format(),
             bytes: &self.bytes,
             lines,
+            left_out,
         };
         explained(alloc, preview, &sent)
     }

@@ -3,7 +3,7 @@
 use crate::program::ProgramDriver;
 use std::test::Fail;
 use wh_scenarios::check;
-use wh_scenarios::program::{explained, explained_faults};
+use wh_scenarios::program::{explained, explained_faults, explained_warnings};
 
 #[test]
 fn wanted(rt: HostRuntime) -> Result<(), Fail> {
@@ -38,4 +38,9 @@ fn sales(rt: HostRuntime) -> Result<(), Fail> {
 #[test]
 fn policies(rt: HostRuntime) -> Result<(), Fail> {
     check::<ProgramDriver>(rt.alloc(), &[explained_faults::POLICIES])
+}
+
+#[test]
+fn left_out(rt: HostRuntime) -> Result<(), Fail> {
+    check::<ProgramDriver>(rt.alloc(), &[explained_warnings::LEFT_OUT])
 }

@@ -1,0 +1,140 @@
+//! What may be a slip in the records of members.
+
+use crate::explanation::SentCommand;
+use crate::left_out::{LeftOut, SparseRecord};
+use crate::line::records_in;
+use crate::row::{push_line, push_more};
+use crate::shown::push_text;
+use std::alloc::{AllocError, Global};
+use wh_batch::{CommandKind, Kind, Records, RowPlace, row_places};
+use wh_policy::{Attribute, DimensionRecord};
+
+/// The most records that are listed.
+const MOST_RECORDS: u64 = 20;
+
+/// The records of members in a file.
+#[derive(Drop)]
+pub(crate) struct SentRecords<'a> {
+    pub(crate) file: &'a [u8],
+    /// The places of the rows, with the header's.
+    pub(crate) rows: &'a [RowPlace],
+    pub(crate) records: &'a [DimensionRecord],
+    pub(crate) attributes: &'a [Attribute],
+}
+
+impl SentRecords<'_> {
+    /// The line on which the record with this number stands; the header has the number 0.
+    fn push_line(&self, text: &mut Vec<u8>, number: u64) -> Result<(), AllocError> {
+        match self.rows.get(number as usize) {
+            Some(row) => push_line(text, self.file, row.start),
+            None => Ok(()),
+        }
+    }
+
+    /// The member of the record with this number.
+    fn push_member(&self, text: &mut Vec<u8>, number: u64) -> Result<(), AllocError> {
+        match self.records.get(number.saturating_sub(1) as usize) {
+            Some(record) => push_text(text, record.natural.as_str()),
+            None => Ok(()),
+        }
+    }
+}
+
+/// Whether a record takes the value of an attribute away.
+fn takes_some(record: &SparseRecord, attributes: &[Attribute]) -> bool {
+    for slot in 0..attributes.len() {
+        if record.takes_away(slot, attributes[slot].kind) {
+            return true;
+        }
+    }
+    false
+}
+
+/// The names of the attributes whose values a record takes away.
+fn push_taken(
+    text: &mut Vec<u8>,
+    record: &SparseRecord,
+    attributes: &[Attribute],
+) -> Result<(), AllocError> {
+    let mut before = ": ";
+    for slot in 0..attributes.len() {
+        if record.takes_away(slot, attributes[slot].kind) {
+            push_text(text, before)?;
+            push_text(text, attributes[slot].name.as_str())?;
+            before = ", ";
+        }
+    }
+    Ok(())
+}
+
+/// The line on a record that takes values away.
+fn push_sparse(
+    text: &mut Vec<u8>,
+    sent: &SentRecords,
+    record: &SparseRecord,
+) -> Result<(), AllocError> {
+    sent.push_line(text, record.number)?;
+    push_text(text, ": ")?;
+    sent.push_member(text, record.number)?;
+    push_text(text, ": empty, which replaces what was there by (none)")?;
+    push_taken(text, record, sent.attributes)?;
+    push_text(text, "\n")
+}
+
+/// The first records that take values away, and how many more there are.
+fn push_left_out(
+    text: &mut Vec<u8>,
+    sent: &SentRecords,
+    left_out: &LeftOut,
+) -> Result<(), AllocError> {
+    let mut found: u64 = 0;
+    for record in left_out.records() {
+        if !takes_some(record, sent.attributes) {
+            continue;
+        }
+        if found < MOST_RECORDS {
+            push_sparse(text, sent, record)?;
+        }
+        found = found.saturating_add(1);
+    }
+    push_more(text, found.saturating_sub(MOST_RECORDS))
+}
+
+/// The lines on the records of a batch.
+fn push_sent(
+    text: &mut Vec<u8>,
+    sent: &SentCommand,
+    records: &SentRecords,
+) -> Result<(), AllocError> {
+    match &sent.left_out {
+        Some(left_out) => push_left_out(text, records, left_out),
+        None => Ok(()),
+    }
+}
+
+/// The lines on what may be a slip in a batch of records.
+pub(crate) fn push_records(
+    text: &mut Vec<u8>,
+    alloc: Global,
+    sent: &SentCommand,
+) -> Result<(), AllocError> {
+    let CommandKind::Batch(kind) = sent.kind else {
+        return Ok(());
+    };
+    let Kind::Dimension(dim) = kind else {
+        return Ok(());
+    };
+    let Some(Records::Dimension(records)) =
+        records_in(alloc, kind, sent.policy, sent.format, sent.bytes)?
+    else {
+        return Ok(());
+    };
+    let rows = row_places(alloc, sent.bytes)?;
+    let records = SentRecords {
+        file: sent.bytes,
+        rows: &rows,
+        records: records.as_slice(),
+        attributes: sent.policy.attributes(dim),
+    };
+    push_sent(text, sent, &records)
+}

@@ -1,0 +1,165 @@
+//! What `explain` says of inputs that would be accepted and may be slips. The expected lines are worked by hand.
+
+/// Cells left empty, under the policy of `explained::WANTED`.
+pub const LEFT_OUT: &str = r#"
+policy policy.toml
+run init w policy.toml
+= accepted 1 init: 0 records, 0 placeholders
+= status 0
+file p1.csv
+> id,day,description,brand,category,department,launched,supplier
+> P1,2024-01-01,Cola,Acme,Drinks,Food,2019,North
+> P2,2024-01-01,Tea,,Drinks,Food,2020,
+run load w product p1 p1.csv
+= accepted 2 p1: 2 records, 0 placeholders
+= status 0
+file p2.csv
+> id,day,description,brand,category,department,launched,supplier
+> P1,2024-07-01,Cola,Bolt,Drinks,Food,2019,West
+run load w product p2 p2.csv
+= accepted 3 p2: 1 records, 0 placeholders
+= status 0
+
+# All but the original, which stays; what was empty before stays so; a new member had nothing.
+file list.csv
+> id,day,description,brand,category,department,launched,supplier
+> P1,2024-08-01,,,,,,East
+> P2,2024-08-01,,,,,,
+> P3,2024-08-01,Jam,,,,,
+run explain w product list.csv
+= would be accepted: 3 records, 0 placeholders
+= mentioned for the first time: product P3
+= line 2: P1: empty, which replaces what was there by (none): description, brand, category, department
+= line 3: P2: empty, which replaces what was there by (none): description, category, department
+= status 0
+
+# Late news: the newest description and supplier stay. Before its first record a member was as in that.
+file list.csv
+> id,day,description,brand,category,department,launched,supplier
+> P1,2024-03-01,,,,,,
+> P1,2023-06-01,,,Drinks,Food,,
+> P2,2023-06-01,,,,,,
+run explain w product list.csv
+= would be accepted: 3 records, 0 placeholders
+= line 2: P1: empty, which replaces what was there by (none): brand, category, department
+= line 3: P1: empty, which replaces what was there by (none): brand
+= line 4: P2: empty, which replaces what was there by (none): category, department
+= status 0
+
+# In place of a record of its day; behind one of its own batch, which has left the same out already.
+file list.csv
+> id,day,description,brand,category,department,launched,supplier
+> P1,2024-07-01,Cola,,Drinks,Food,2019,West
+> P1,2024-09-01,Cola,,Drinks,,2019,West
+run explain w product list.csv
+= would be accepted: 2 records, 0 placeholders
+= line 2: P1: empty, which replaces what was there by (none): brand
+= line 3: P1: empty, which replaces what was there by (none): department
+= status 0
+
+# Another dimension's members have the same numbers.
+file s1.csv
+> id,day,city
+> S1,2024-01-01,
+run explain w store s1.csv
+= would be accepted: 1 records, 0 placeholders
+= mentioned for the first time: store S1
+= status 0
+
+# Of 21 records the first 20 are told.
+file cities.csv
+> id,day,city
+> S01,2024-01-01,Bern
+> S02,2024-01-01,Bern
+> S03,2024-01-01,Bern
+> S04,2024-01-01,Bern
+> S05,2024-01-01,Bern
+> S06,2024-01-01,Bern
+> S07,2024-01-01,Bern
+> S08,2024-01-01,Bern
+> S09,2024-01-01,Bern
+> S10,2024-01-01,Bern
+> S11,2024-01-01,Bern
+> S12,2024-01-01,Bern
+> S13,2024-01-01,Bern
+> S14,2024-01-01,Bern
+> S15,2024-01-01,Bern
+> S16,2024-01-01,Bern
+> S17,2024-01-01,Bern
+> S18,2024-01-01,Bern
+> S19,2024-01-01,Bern
+> S20,2024-01-01,Bern
+> S21,2024-01-01,Bern
+run load w store s1 cities.csv
+= accepted 4 s1: 21 records, 0 placeholders
+= status 0
+file cities.csv
+> id,day,city
+> S01,2024-02-01,
+> S02,2024-02-01,
+> S03,2024-02-01,
+> S04,2024-02-01,
+> S05,2024-02-01,
+> S06,2024-02-01,
+> S07,2024-02-01,
+> S08,2024-02-01,
+> S09,2024-02-01,
+> S10,2024-02-01,
+> S11,2024-02-01,
+> S12,2024-02-01,
+> S13,2024-02-01,
+> S14,2024-02-01,
+> S15,2024-02-01,
+> S16,2024-02-01,
+> S17,2024-02-01,
+> S18,2024-02-01,
+> S19,2024-02-01,
+> S20,2024-02-01,
+> S21,2024-02-01,
+run explain w store cities.csv
+= would be accepted: 21 records, 0 placeholders
+= line 2: S01: empty, which replaces what was there by (none): city
+= line 3: S02: empty, which replaces what was there by (none): city
+= line 4: S03: empty, which replaces what was there by (none): city
+= line 5: S04: empty, which replaces what was there by (none): city
+= line 6: S05: empty, which replaces what was there by (none): city
+= line 7: S06: empty, which replaces what was there by (none): city
+= line 8: S07: empty, which replaces what was there by (none): city
+= line 9: S08: empty, which replaces what was there by (none): city
+= line 10: S09: empty, which replaces what was there by (none): city
+= line 11: S10: empty, which replaces what was there by (none): city
+= line 12: S11: empty, which replaces what was there by (none): city
+= line 13: S12: empty, which replaces what was there by (none): city
+= line 14: S13: empty, which replaces what was there by (none): city
+= line 15: S14: empty, which replaces what was there by (none): city
+= line 16: S15: empty, which replaces what was there by (none): city
+= line 17: S16: empty, which replaces what was there by (none): city
+= line 18: S17: empty, which replaces what was there by (none): city
+= line 19: S18: empty, which replaces what was there by (none): city
+= line 20: S19: empty, which replaces what was there by (none): city
+= line 21: S20: empty, which replaces what was there by (none): city
+= and 1 more
+= status 0
+run status w
+= format 1
+= commands 4
+= changes 24
+= facts 0
+= members product 2 store 21 customer 0
+= status 0
+
+# All kept records are read where a cell is empty: a damaged one is told, whichever member it is of.
+sql w UPDATE change SET day = 0 WHERE command = 4 AND record = 21
+file list.csv
+> id,day,description,brand,category,department,launched,supplier
+> P1,2024-08-01,,Bolt,Drinks,Food,2019,East
+run explain w product list.csv
+= failed: E7 damaged, change
+= status 3
+file list.csv
+> id,day,description,brand,category,department,launched,supplier
+> P1,2024-08-01,Cola,Bolt,Drinks,Food,2019,East
+run explain w product list.csv
+= would be accepted: 1 records, 0 placeholders
+= status 0
+"#;
