@@ -1,5 +1,6 @@
 //! Signs of a file that isn't a table in UTF-8, with commas.
 
+use crate::code_pages::{is_of_code_page, push_meanings};
 use crate::shown::{push_place, push_text};
 use std::alloc::AllocError;
 
@@ -32,6 +33,26 @@ fn is_cut(text: &[u8]) -> bool {
     }
 }
 
+/// The first byte that only Windows-1252 and CP850 have a character for.
+fn code_page_byte(text: &[u8]) -> Option<u8> {
+    let place = text.iter().position(|byte| is_of_code_page(*byte))?;
+    text.get(place).copied()
+}
+
+/// What a text seems to be that begins with a byte that is no UTF-8.
+fn push_likely(text: &mut Vec<u8>, found: &[u8]) -> Result<(), AllocError> {
+    if is_cut(found) {
+        return push_text(text, "; it is cut within a character, or Latin-1");
+    }
+    match code_page_byte(found) {
+        Some(byte) => {
+            push_text(text, "; it looks like Windows-1252 or CP850: ")?;
+            push_meanings(text, byte)
+        }
+        None => push_text(text, "; it looks like Latin-1"),
+    }
+}
+
 /// Which byte of a field is no UTF-8, and whether there is one.
 pub(crate) fn push_no_utf8(text: &mut Vec<u8>, bytes: &[u8]) -> Result<bool, AllocError> {
     let Some(place) = no_utf8_at(bytes) else {
@@ -39,11 +60,7 @@ pub(crate) fn push_no_utf8(text: &mut Vec<u8>, bytes: &[u8]) -> Result<bool, All
     };
     push_text(text, " is no UTF-8 at byte ")?;
     push_place(text, place)?;
-    if is_cut(&bytes[place.min(bytes.len())..]) {
-        push_text(text, "; it is cut within a character, or Latin-1")?;
-    } else {
-        push_text(text, "; it looks like Latin-1")?;
-    }
+    push_likely(text, &bytes[place.min(bytes.len())..])?;
     Ok(true)
 }
 
@@ -102,7 +119,12 @@ pub(crate) fn push_encoding_line(
     let Some(place) = no_utf8_at(bytes) else {
         return Ok(());
     };
-    push_text(text, "the file looks like Latin-1: it is no UTF-8 at byte ")?;
+    push_text(text, "the file looks like ")?;
+    match code_page_byte(&bytes[place.min(bytes.len())..]) {
+        Some(_) => push_text(text, "Windows-1252 or CP850")?,
+        None => push_text(text, "Latin-1")?,
+    }
+    push_text(text, ": it is no UTF-8 at byte ")?;
     push_place(text, place)?;
     push_text(text, "\n")
 }

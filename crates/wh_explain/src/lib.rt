@@ -2,6 +2,7 @@
 #![tactic(auto)]
 
 mod batch;
+mod code_pages;
 mod encoding;
 mod explanation;
 mod field;

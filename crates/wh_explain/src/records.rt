@@ -1,16 +1,18 @@
 //! What may be a slip in the records of members.
 
+use crate::code_pages::push_meanings;
 use crate::explanation::SentCommand;
 use crate::left_out::{LeftOut, SparseRecord};
 use crate::line::records_in;
-use crate::row::{push_line, push_more};
-use crate::shown::push_text;
+use crate::row::{push_column, push_line, push_more};
+use crate::shown::{push_place, push_quoted, push_text};
 use std::alloc::{AllocError, Global};
-use wh_batch::{CommandKind, Kind, Records, RowPlace, row_places};
+use wh_batch::{Column, CommandKind, Kind, Records, RowPlace, columns_of, row_places};
+use wh_day::Value;
 use wh_policy::{Attribute, DimensionRecord};
 
-/// The most records that are listed.
-const MOST_RECORDS: u64 = 20;
+/// The most records or values that are listed.
+const MOST_LISTED: u64 = 20;
 
 /// The records of members in a file.
 #[derive(Drop)]
@@ -19,6 +21,7 @@ pub(crate) struct SentRecords<'a> {
     /// The places of the rows, with the header's.
     pub(crate) rows: &'a [RowPlace],
     pub(crate) records: &'a [DimensionRecord],
+    pub(crate) columns: &'a [Column<'a>],
     pub(crate) attributes: &'a [Attribute],
 }
 
@@ -38,6 +41,70 @@ impl SentRecords<'_> {
             None => Ok(()),
         }
     }
+}
+
+/// The place of the first character of a value that was a byte from 80 to 9F, if it has one.
+fn control_in(value: &[u8]) -> Option<usize> {
+    for place in 0..value.len() {
+        match &value[place..] {
+            [0xC2, 0x80..=0x9F, ..] => return Some(place),
+            _ => {}
+        }
+    }
+    None
+}
+
+/// The line on a value with such a character.
+fn push_control(
+    text: &mut Vec<u8>,
+    sent: &SentRecords,
+    number: u64,
+    slot: usize,
+    value: &[u8],
+    place: usize,
+) -> Result<(), AllocError> {
+    sent.push_line(text, number)?;
+    push_text(text, ", ")?;
+    push_column(text, sent.columns, slot.saturating_add(2))?;
+    push_quoted(text, value)?;
+    push_text(text, " has a control character at byte ")?;
+    push_place(text, place)?;
+    push_text(text, "; ")?;
+    push_meanings(text, value.get(place.saturating_add(1)).copied().unwrap_or(0))
+}
+
+/// The lines on such values of a record, behind so many others.
+fn push_controls_of(
+    text: &mut Vec<u8>,
+    sent: &SentRecords,
+    number: u64,
+    values: &[Value],
+    others: u64,
+) -> Result<u64, AllocError> {
+    let mut found = others;
+    for slot in 0..values.len() {
+        let value = values[slot].as_str().as_bytes();
+        let Some(place) = control_in(value) else {
+            continue;
+        };
+        if found < MOST_LISTED {
+            push_control(text, sent, number, slot, value, place)?;
+            push_text(text, "\n")?;
+        }
+        found = found.saturating_add(1);
+    }
+    Ok(found)
+}
+
+/// The first values with such characters, and how many more there are.
+fn push_controls(text: &mut Vec<u8>, sent: &SentRecords) -> Result<(), AllocError> {
+    let mut found: u64 = 0;
+    for place in 0..sent.records.len() {
+        let values = sent.records[place].values.as_slice();
+        let number = (place as u64).saturating_add(1);
+        found = push_controls_of(text, sent, number, values, found)?;
+    }
+    push_more(text, found.saturating_sub(MOST_LISTED))
 }
 
 /// Whether a record takes the value of an attribute away.
@@ -92,12 +159,12 @@ fn push_left_out(
         if !takes_some(record, sent.attributes) {
             continue;
         }
-        if found < MOST_RECORDS {
+        if found < MOST_LISTED {
             push_sparse(text, sent, record)?;
         }
         found = found.saturating_add(1);
     }
-    push_more(text, found.saturating_sub(MOST_RECORDS))
+    push_more(text, found.saturating_sub(MOST_LISTED))
 }
 
 /// The lines on the records of a batch.
@@ -106,6 +173,7 @@ fn push_sent(
     sent: &SentCommand,
     records: &SentRecords,
 ) -> Result<(), AllocError> {
+    push_controls(text, records)?;
     match &sent.left_out {
         Some(left_out) => push_left_out(text, records, left_out),
         None => Ok(()),
@@ -130,10 +198,12 @@ pub(crate) fn push_records(
         return Ok(());
     };
     let rows = row_places(alloc, sent.bytes)?;
+    let columns = columns_of(alloc, kind, sent.policy, sent.format)?;
     let records = SentRecords {
         file: sent.bytes,
         rows: &rows,
         records: records.as_slice(),
+        columns: &columns,
         attributes: sent.policy.attributes(dim),
     };
     push_sent(text, sent, &records)

@@ -63,6 +63,11 @@ fn digit(number: u8) -> u8 {
     }
 }
 
+/// The two hexadecimal digits of a byte.
+pub(crate) fn push_hexadecimal(text: &mut Vec<u8>, byte: u8) -> Result<(), AllocError> {
+    text.extend_from_slice(&[digit(byte >> 4), digit(byte & 15)])
+}
+
 fn push_escaped(text: &mut Vec<u8>, byte: u8) -> Result<(), AllocError> {
     match byte {
         b'\n' => push_text(text, "\\n"),
@@ -71,7 +76,7 @@ fn push_escaped(text: &mut Vec<u8>, byte: u8) -> Result<(), AllocError> {
         b'\\' => push_text(text, "\\\\"),
         _ => {
             push_text(text, "\\x")?;
-            text.extend_from_slice(&[digit(byte >> 4), digit(byte & 15)])
+            push_hexadecimal(text, byte)
         }
     }
 }

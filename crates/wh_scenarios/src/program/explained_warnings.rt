@@ -163,3 +163,47 @@ run explain w product list.csv
 = would be accepted: 1 records, 0 placeholders
 = status 0
 "#;
+
+/// Bytes of other code pages, under the policy of `explained::WANTED`.
+pub const CODE_PAGES: &str = r#"
+policy policy.toml
+run init w policy.toml
+= accepted 1 init: 0 records, 0 placeholders
+= status 0
+
+# As they came from the till: alone, behind a byte that Latin-1 has, too, and with Latin-1 alone.
+bytes c.csv id,day,city\nS1,2024-01-01,Z\x81rich\nS2,2024-01-01,5 \x80\nS3,2024-01-01,\xFC \x84\nS4,2024-01-01,Z\xFCrich\xA0\nS5,2024-01-01,K\x9F\n
+run explain w store c.csv
+= refused: E3 batch, B6 bad value, record 1
+= line 2, column 3 "city": 'Z\x81rich' is no UTF-8 at byte 2; it looks like Windows-1252 or CP850: the byte 81 is ü in CP850
+= line 3, column 3 "city": '5 \x80' is no UTF-8 at byte 3; it looks like Windows-1252 or CP850: the byte 80 is € in Windows-1252, Ç in CP850
+= line 4, column 3 "city": '\xfc \x84' is no UTF-8 at byte 1; it looks like Windows-1252 or CP850: the byte 84 is „ in Windows-1252, ä in CP850
+= line 5, column 3 "city": 'Z\xfcrich\xa0' is no UTF-8 at byte 2; it looks like Latin-1
+= line 6, column 3 "city": 'K\x9f' is no UTF-8 at byte 2; it looks like Windows-1252 or CP850: the byte 9f is Ÿ in Windows-1252, ƒ in CP850
+= status 2
+bytes h.csv id,day,Stra\xE1e K\x94ln\n
+run explain w store h.csv
+= refused: E3 batch, B2 wrong header, record 0
+= line 1, column 3 "city": 'Stra\xe1e K\x94ln' stands there
+= wanted: id,day,city
+= there: id,day,Stra\xe1e K\x94ln
+= the file looks like Windows-1252 or CP850: it is no UTF-8 at byte 12
+= status 2
+
+# Made UTF-8 as if they were Latin-1: they are accepted, as the control characters that they then are.
+bytes c.csv id,day,city\r\n\r\nS1,2024-01-01,Z\xC2\x81rich\r\nS2,2024-01-01,Z\xC3\xBCrich\r\nS3,2024-01-01,5 \xC2\x80 \xC2\x84\r\nS4,2024-01-01,\xC2\xA0\xC2\x9F\r\n
+run explain w store c.csv
+= would be accepted: 4 records, 0 placeholders
+= mentioned for the first time: store S1, S2, S3, S4
+= line 3, column 3 "city": 'Z\xc2\x81rich' has a control character at byte 2; the byte 81 is ü in CP850
+= line 5, column 3 "city": '5 \xc2\x80 \xc2\x84' has a control character at byte 3; the byte 80 is € in Windows-1252, Ç in CP850
+= line 6, column 3 "city": '\xc2\xa0\xc2\x9f' has a control character at byte 3; the byte 9f is Ÿ in Windows-1252, ƒ in CP850
+= status 0
+bytes p.csv id,day,description,brand,category,department,launched,supplier\nP1,2024-01-01,K\xC2\x84se,Acme,Drinks,Food,2019,N\xC2\x94rdli\n
+run explain w product p.csv
+= would be accepted: 1 records, 0 placeholders
+= mentioned for the first time: product P1
+= line 2, column 3 "description": 'K\xc2\x84se' has a control character at byte 2; the byte 84 is „ in Windows-1252, ä in CP850
+= line 2, column 8 "supplier": 'N\xc2\x94rdli' has a control character at byte 2; the byte 94 is ” in Windows-1252, ö in CP850
+= status 0
+"#;

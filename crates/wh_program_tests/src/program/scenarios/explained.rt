@@ -44,3 +44,8 @@ fn policies(rt: HostRuntime) -> Result<(), Fail> {
 fn left_out(rt: HostRuntime) -> Result<(), Fail> {
     check::<ProgramDriver>(rt.alloc(), &[explained_warnings::LEFT_OUT])
 }
+
+#[test]
+fn code_pages(rt: HostRuntime) -> Result<(), Fail> {
+    check::<ProgramDriver>(rt.alloc(), &[explained_warnings::CODE_PAGES])
+}
