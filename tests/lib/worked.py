@@ -240,7 +240,7 @@ refused: E4 policy, P5 bad type
     (13, "load w sales s3 s3", "refused: E6 line there, record 2"),
     (13, "explain w sales s3", """\
 refused: E6 line there, record 2
-line 3: ticket T2, line 1: sold by command 12, s2; a line is sold once"""),
+line 3: ticket T2, line 1: sold by command 12, s2, on 2024-06-10 in S1; a line is sold once"""),
     (14, "load w sales s4 s4", "accepted 18 s4: 1 records, 0 placeholders"),
     (14, "load w sales s6 s6", "refused: E3 batch, B5 bad day, record 1"),
     (14, "explain w sales s6", """\

@@ -5,7 +5,7 @@ use indexmap::IndexSet;
 use std::alloc::{AllocError, Global};
 use wh_admission::Refusal;
 use wh_batch::{CommandKind, Kind, Records, read};
-use wh_day::{NaturalKey, ParseError, Value};
+use wh_day::{Day, NaturalKey, ParseError, Value};
 use wh_policy::{Format, Policy, SaleRecord, VoidRecord};
 use wh_rows::CommandRow;
 
@@ -41,11 +41,31 @@ pub(crate) struct Source {
     pub(crate) id: Value,
 }
 
-/// Which commands sold and withdrew a line: their places among those that are noted.
-#[derive(Clone, Copy, Debug, Drop)]
+/// The sale of a line.
+#[derive(Debug, Drop)]
+pub(crate) struct Sold {
+    /// The place of its command among those that are noted.
+    command: usize,
+    pub(crate) day: Day,
+    /// The natural key of its store.
+    pub(crate) store: NaturalKey,
+}
+
+impl Sold {
+    fn by(command: usize, sale: &SaleRecord) -> Sold {
+        Sold {
+            command,
+            day: sale.day,
+            store: sale.store.copy(),
+        }
+    }
+}
+
+/// How a line was sold and withdrawn: its sale, and the place of the command that withdrew it among those that are noted.
+#[derive(Debug, Drop)]
 pub(crate) struct Traces {
-    pub(crate) sold: Option<usize>,
-    pub(crate) withdrawn: Option<usize>,
+    sold: Option<Sold>,
+    withdrawn: Option<usize>,
 }
 
 /// The lines of a batch that is refused for one of them, and the commands that are known to have sold or withdrawn some.
@@ -97,7 +117,7 @@ impl TracedLines {
         for sale in sales {
             let line = TicketLine::of_sale(sale);
             if let Some(traces) = self.traces_of(&line) {
-                traces.sold = Some(command);
+                traces.sold = Some(Sold::by(command, sale));
                 found = true;
             }
         }
@@ -182,9 +202,14 @@ impl TracedLines {
         self.lines.get_index(place)
     }
 
-    /// The command that sold the line in a place, if one is noted.
-    pub(crate) fn seller_of(&self, place: usize) -> Option<&Source> {
-        self.commands.get(self.traces.get(place)?.sold?)
+    /// The sale of the line in a place, if one is noted.
+    pub(crate) fn sale_of(&self, place: usize) -> Option<&Sold> {
+        self.traces.get(place)?.sold.as_ref()
+    }
+
+    /// The command of a sale.
+    pub(crate) fn seller_of(&self, sold: &Sold) -> Option<&Source> {
+        self.commands.get(sold.command)
     }
 
     /// The command that withdrew the line in a place, if one is noted.

@@ -1,6 +1,6 @@
 //! What is said of the lines of tickets for which a batch is refused.
 
-use crate::line::{Source, TracedLines};
+use crate::line::{Sold, Source, TracedLines};
 use crate::row::{push_line, push_more};
 use crate::shown::{push_number, push_text};
 use std::alloc::{AllocError, Global};
@@ -22,13 +22,32 @@ fn push_withdrawn(text: &mut Vec<u8>, source: &Source) -> Result<(), AllocError>
     push_source(text, source)
 }
 
+/// By which command, on which day and in which store a line was sold.
+fn push_sale(
+    text: &mut Vec<u8>,
+    alloc: Global,
+    lines: &TracedLines,
+    sold: &Sold,
+) -> Result<(), AllocError> {
+    push_text(text, "sold by ")?;
+    if let Some(source) = lines.seller_of(sold) {
+        push_source(text, source)?;
+    }
+    let day = sold.day;
+    let shown = format!(in alloc; ", on {day} in ")?;
+    push_text(text, shown.as_str())?;
+    push_text(text, sold.store.as_str())
+}
+
 /// What is said of a line that is there already.
-fn push_sold(text: &mut Vec<u8>, lines: &TracedLines, place: usize) -> Result<(), AllocError> {
-    match lines.seller_of(place) {
-        Some(source) => {
-            push_text(text, "sold by ")?;
-            push_source(text, source)?;
-        }
+fn push_sold(
+    text: &mut Vec<u8>,
+    alloc: Global,
+    lines: &TracedLines,
+    place: usize,
+) -> Result<(), AllocError> {
+    match lines.sale_of(place) {
+        Some(sold) => push_sale(text, alloc, lines, sold)?,
         None => push_text(text, "sold before")?,
     }
     if let Some(source) = lines.withdrawer_of(place) {
@@ -75,6 +94,7 @@ fn push_record_line(
 /// Where a line for which the batch is refused stands in its file, its ticket, and the commands that sold and withdrew it.
 fn push_refused_line(
     text: &mut Vec<u8>,
+    alloc: Global,
     lines: &TracedLines,
     place: usize,
     file: &[u8],
@@ -83,7 +103,7 @@ fn push_refused_line(
     push_record_line(text, file, rows, place)?;
     push_ticket(text, lines, place)?;
     if lines.are_sales() {
-        push_sold(text, lines, place)
+        push_sold(text, alloc, lines, place)
     } else {
         push_missing(text, lines, place)
     }
@@ -92,6 +112,7 @@ fn push_refused_line(
 /// The first lines for which the batch is refused, and how many more there are.
 fn push_all_refused(
     text: &mut Vec<u8>,
+    alloc: Global,
     lines: &TracedLines,
     file: &[u8],
     rows: &[RowPlace],
@@ -102,7 +123,7 @@ fn push_all_refused(
             continue;
         }
         if found < MOST_LINES {
-            push_refused_line(text, lines, place, file, rows)?;
+            push_refused_line(text, alloc, lines, place, file, rows)?;
         }
         found = found.saturating_add(1);
     }
@@ -117,7 +138,7 @@ pub(crate) fn push_refused_lines(
     file: &[u8],
 ) -> Result<(), AllocError> {
     let rows = row_places(alloc, file)?;
-    push_all_refused(text, lines, file, &rows)?;
+    push_all_refused(text, alloc, lines, file, &rows)?;
     let Some(source) = lines.same_command() else {
         return Ok(());
     };

@@ -95,8 +95,8 @@ run explain w store stores.csv
 = status 0
 run explain w sales s1.csv
 = refused: E6 line there, record 1
-= line 2: ticket T1, line 1: sold by command 2, s1; a line is sold once
-= line 3: ticket T1, line 2: sold by command 2, s1; a line is sold once
+= line 2: ticket T1, line 1: sold by command 2, s1, on 2024-06-10 in S9; a line is sold once
+= line 3: ticket T1, line 2: sold by command 2, s1, on 2024-06-10 in S9; a line is sold once
 = the same bytes are command 2, s1
 = status 2
 sql w UPDATE meta SET value = 2 WHERE name = 'facts_max'
@@ -194,13 +194,13 @@ run load w sales s1 s1.csv
 = status 0
 file s2.csv
 > ticket,line,day,store,product,customer,quantity,amount,cost
-> T1,2,2024-06-10,S9,P7,,1,2.50,1.60
-> T2,1,2024-06-10,S9,P7,,1,2.50,1.60
+> T1,2,2024-06-12,S8,P7,,1,2.50,1.60
+> T2,1,2024-06-11,S9,P7,,1,2.50,1.60
 run load w sales s2 s2.csv
-= accepted 3 s2: 2 records, 0 placeholders
+= accepted 3 s2: 2 records, 1 placeholders
 = status 0
 
-# Of two sales commands the one that sold it: the first has another line of the ticket, and the line of another ticket.
+# Of two sales commands the one that sold it, with its day and store, not those of the line that is sent: the first has another line of the ticket, and the line of another ticket.
 file again.csv
 > ticket,line,day,store,product,customer,quantity,amount,cost
 > T3,1,2024-06-10,S9,P7,,1,2.50,1.60
@@ -208,15 +208,15 @@ file again.csv
 > T1,1,2024-06-10,S9,P7,,1,2.50,1.60
 run explain w sales again.csv
 = refused: E6 line there, record 2
-= line 3: ticket T2, line 1: sold by command 3, s2; a line is sold once
-= line 4: ticket T1, line 1: sold by command 2, s1; a line is sold once
+= line 3: ticket T2, line 1: sold by command 3, s2, on 2024-06-11 in S9; a line is sold once
+= line 4: ticket T1, line 1: sold by command 2, s1, on 2024-06-10 in S9; a line is sold once
 = status 2
 file again.csv
 > ticket,line,day,store,product,customer,quantity,amount,cost
 > T1,2,2024-06-10,S9,P7,,1,2.50,1.60
 run explain w sales again.csv
 = refused: E6 line there, record 1
-= line 2: ticket T1, line 2: sold by command 3, s2; a line is sold once
+= line 2: ticket T1, line 2: sold by command 3, s2, on 2024-06-12 in S8; a line is sold once
 = status 2
 
 # In format 2, behind a policy with a year more: sold in format 1, and in that year.
@@ -232,7 +232,7 @@ file again.csv
 > T1,1,2024-06-10,S9,P7,,1,2.50,1.60,0
 run explain w sales again.csv
 = refused: E6 line there, record 1
-= line 2: ticket T1, line 1: sold by command 2, s1; a line is sold once
+= line 2: ticket T1, line 1: sold by command 2, s1, on 2024-06-10 in S9; a line is sold once
 = status 2
 file s3.csv
 > ticket,line,day,store,product,customer,quantity,amount,cost,discount
@@ -242,7 +242,7 @@ run load w sales s3 s3.csv
 = status 0
 run explain w sales s3.csv
 = refused: E6 line there, record 1
-= line 2: ticket T3, line 1: sold by command 6, s3; a line is sold once
+= line 2: ticket T3, line 1: sold by command 6, s3, on 2027-01-04 in S9; a line is sold once
 = the same bytes are command 6, s3
 = status 2
 
@@ -275,7 +275,7 @@ run explain w void v1.csv
 = status 2
 run explain w sales s3.csv
 = refused: E6 line there, record 1
-= line 2: ticket T3, line 1: sold by command 6, s3; withdrawn by command 8, v2; a line is sold once
+= line 2: ticket T3, line 1: sold by command 6, s3, on 2027-01-04 in S9; withdrawn by command 8, v2; a line is sold once
 = the same bytes are command 6, s3
 = status 2
 file v3.csv
@@ -373,26 +373,26 @@ file evening.csv
 > T1,22,2024-06-10,S9,P22,,1,2.50,1.60
 run explain w sales evening.csv
 = refused: E6 line there, record 2
-= line 4: ticket T1, line 1: sold by command 2, s1; a line is sold once
-= line 5: ticket T1, line 2: sold by command 2, s1; a line is sold once
-= line 6: ticket T1, line 3: sold by command 2, s1; a line is sold once
-= line 7: ticket T1, line 4: sold by command 2, s1; a line is sold once
-= line 8: ticket T1, line 5: sold by command 2, s1; a line is sold once
-= line 9: ticket T1, line 6: sold by command 2, s1; a line is sold once
-= line 10: ticket T1, line 7: sold by command 2, s1; a line is sold once
-= line 11: ticket T1, line 8: sold by command 2, s1; a line is sold once
-= line 12: ticket T1, line 9: sold by command 2, s1; a line is sold once
-= line 13: ticket T1, line 10: sold by command 2, s1; a line is sold once
-= line 14: ticket T1, line 11: sold by command 2, s1; a line is sold once
-= line 15: ticket T1, line 12: sold by command 2, s1; a line is sold once
-= line 16: ticket T1, line 13: sold by command 2, s1; a line is sold once
-= line 17: ticket T1, line 14: sold by command 2, s1; a line is sold once
-= line 18: ticket T1, line 15: sold by command 2, s1; a line is sold once
-= line 19: ticket T1, line 16: sold by command 2, s1; a line is sold once
-= line 20: ticket T1, line 17: sold by command 2, s1; a line is sold once
-= line 21: ticket T1, line 18: sold by command 2, s1; a line is sold once
-= line 22: ticket T1, line 19: sold by command 2, s1; a line is sold once
-= line 23: ticket T1, line 20: sold by command 2, s1; a line is sold once
+= line 4: ticket T1, line 1: sold by command 2, s1, on 2024-06-10 in S9; a line is sold once
+= line 5: ticket T1, line 2: sold by command 2, s1, on 2024-06-10 in S9; a line is sold once
+= line 6: ticket T1, line 3: sold by command 2, s1, on 2024-06-10 in S9; a line is sold once
+= line 7: ticket T1, line 4: sold by command 2, s1, on 2024-06-10 in S9; a line is sold once
+= line 8: ticket T1, line 5: sold by command 2, s1, on 2024-06-10 in S9; a line is sold once
+= line 9: ticket T1, line 6: sold by command 2, s1, on 2024-06-10 in S9; a line is sold once
+= line 10: ticket T1, line 7: sold by command 2, s1, on 2024-06-10 in S9; a line is sold once
+= line 11: ticket T1, line 8: sold by command 2, s1, on 2024-06-10 in S9; a line is sold once
+= line 12: ticket T1, line 9: sold by command 2, s1, on 2024-06-10 in S9; a line is sold once
+= line 13: ticket T1, line 10: sold by command 2, s1, on 2024-06-10 in S9; a line is sold once
+= line 14: ticket T1, line 11: sold by command 2, s1, on 2024-06-10 in S9; a line is sold once
+= line 15: ticket T1, line 12: sold by command 2, s1, on 2024-06-10 in S9; a line is sold once
+= line 16: ticket T1, line 13: sold by command 2, s1, on 2024-06-10 in S9; a line is sold once
+= line 17: ticket T1, line 14: sold by command 2, s1, on 2024-06-10 in S9; a line is sold once
+= line 18: ticket T1, line 15: sold by command 2, s1, on 2024-06-10 in S9; a line is sold once
+= line 19: ticket T1, line 16: sold by command 2, s1, on 2024-06-10 in S9; a line is sold once
+= line 20: ticket T1, line 17: sold by command 2, s1, on 2024-06-10 in S9; a line is sold once
+= line 21: ticket T1, line 18: sold by command 2, s1, on 2024-06-10 in S9; a line is sold once
+= line 22: ticket T1, line 19: sold by command 2, s1, on 2024-06-10 in S9; a line is sold once
+= line 23: ticket T1, line 20: sold by command 2, s1, on 2024-06-10 in S9; a line is sold once
 = and 2 more
 = status 2
 
@@ -421,26 +421,26 @@ file evening.csv
 > T1,20,2024-06-10,S9,P20,,1,2.50,1.60
 run explain w sales evening.csv
 = refused: E6 line there, record 1
-= line 2: ticket T1, line 1: sold by command 2, s1; a line is sold once
-= line 3: ticket T1, line 2: sold by command 2, s1; a line is sold once
-= line 4: ticket T1, line 3: sold by command 2, s1; a line is sold once
-= line 5: ticket T1, line 4: sold by command 2, s1; a line is sold once
-= line 6: ticket T1, line 5: sold by command 2, s1; a line is sold once
-= line 7: ticket T1, line 6: sold by command 2, s1; a line is sold once
-= line 8: ticket T1, line 7: sold by command 2, s1; a line is sold once
-= line 9: ticket T1, line 8: sold by command 2, s1; a line is sold once
-= line 10: ticket T1, line 9: sold by command 2, s1; a line is sold once
-= line 11: ticket T1, line 10: sold by command 2, s1; a line is sold once
-= line 12: ticket T1, line 11: sold by command 2, s1; a line is sold once
-= line 13: ticket T1, line 12: sold by command 2, s1; a line is sold once
-= line 14: ticket T1, line 13: sold by command 2, s1; a line is sold once
-= line 15: ticket T1, line 14: sold by command 2, s1; a line is sold once
-= line 16: ticket T1, line 15: sold by command 2, s1; a line is sold once
-= line 17: ticket T1, line 16: sold by command 2, s1; a line is sold once
-= line 18: ticket T1, line 17: sold by command 2, s1; a line is sold once
-= line 19: ticket T1, line 18: sold by command 2, s1; a line is sold once
-= line 20: ticket T1, line 19: sold by command 2, s1; a line is sold once
-= line 21: ticket T1, line 20: sold by command 2, s1; a line is sold once
+= line 2: ticket T1, line 1: sold by command 2, s1, on 2024-06-10 in S9; a line is sold once
+= line 3: ticket T1, line 2: sold by command 2, s1, on 2024-06-10 in S9; a line is sold once
+= line 4: ticket T1, line 3: sold by command 2, s1, on 2024-06-10 in S9; a line is sold once
+= line 5: ticket T1, line 4: sold by command 2, s1, on 2024-06-10 in S9; a line is sold once
+= line 6: ticket T1, line 5: sold by command 2, s1, on 2024-06-10 in S9; a line is sold once
+= line 7: ticket T1, line 6: sold by command 2, s1, on 2024-06-10 in S9; a line is sold once
+= line 8: ticket T1, line 7: sold by command 2, s1, on 2024-06-10 in S9; a line is sold once
+= line 9: ticket T1, line 8: sold by command 2, s1, on 2024-06-10 in S9; a line is sold once
+= line 10: ticket T1, line 9: sold by command 2, s1, on 2024-06-10 in S9; a line is sold once
+= line 11: ticket T1, line 10: sold by command 2, s1, on 2024-06-10 in S9; a line is sold once
+= line 12: ticket T1, line 11: sold by command 2, s1, on 2024-06-10 in S9; a line is sold once
+= line 13: ticket T1, line 12: sold by command 2, s1, on 2024-06-10 in S9; a line is sold once
+= line 14: ticket T1, line 13: sold by command 2, s1, on 2024-06-10 in S9; a line is sold once
+= line 15: ticket T1, line 14: sold by command 2, s1, on 2024-06-10 in S9; a line is sold once
+= line 16: ticket T1, line 15: sold by command 2, s1, on 2024-06-10 in S9; a line is sold once
+= line 17: ticket T1, line 16: sold by command 2, s1, on 2024-06-10 in S9; a line is sold once
+= line 18: ticket T1, line 17: sold by command 2, s1, on 2024-06-10 in S9; a line is sold once
+= line 19: ticket T1, line 18: sold by command 2, s1, on 2024-06-10 in S9; a line is sold once
+= line 20: ticket T1, line 19: sold by command 2, s1, on 2024-06-10 in S9; a line is sold once
+= line 21: ticket T1, line 20: sold by command 2, s1, on 2024-06-10 in S9; a line is sold once
 = status 2
 
 # A fact that no command sold is there all the same.
