@@ -16,7 +16,7 @@ import subprocess
 import sys
 
 from lib.program import program
-from lib.worked import DAYS, FILES, WORDS, Answer, Count, batch, expected, own_folder, printed, run, said, write_files
+from lib.worked import DAYS, FILES, WORDS, Answer, Count, batch, expected, own_folder, printed, run, said, without_file, write_files
 
 QUESTIONS = int(sys.argv[1]) if len(sys.argv) > 1 else 1_000
 PROGRAM = program(2)
@@ -74,11 +74,6 @@ class Session:
         rest = self.read + self.process.stdout.read()
         self.process.stdout.close()
         return Answer(rest, self.process.wait(PATIENCE))
-
-
-def without_file(words):
-    first, _, *rest = words.split(" ")
-    return " ".join([first, *rest])
 
 
 def answered(sent, file="w"):

@@ -4,15 +4,16 @@ first (`rt run` in crates/wh); a C compiler makes the library tests/lib/stop_fil
 
 usage: stopped_files.py [STEP] [PROGRAM] [NAME]
 
-Every such call of a making, of a load of a late record, of one of a void and of a delivery of three commands, or one in STEP of them, until a run ends
-without a stop; of an upgrade of the sixteen worked rows, and of a delivery of an upgrade, a late record and a migration, one in four times STEP; with NAME
-(making, load, void, delivery, upgrade, carrying, open, again) of that one alone. Each stop is tried three times: with nothing of that call done; with the
-first half of the bytes of that write done; and with all taken back that was written since its file was last synced. `open` stops a `status` that opens what
-the stopped delivery left, and `again` stops that delivery when it comes again, each after one in four times STEP of the delivery's stops.
+Every such call of a making, of a load of a late record, of one of a void, of a delivery of three commands, and of a session of these with a check and a
+migration, or one in STEP of them, until a run ends without a stop; of an upgrade of the sixteen worked rows, and of a delivery of an upgrade, a late record and a
+migration, one in four times STEP; with NAME (making, load, void, delivery, session, upgrade, carrying, open, again) of that one alone. Each stop is tried three
+times: with nothing of that call done; with the first half of the bytes of that write done; and with all taken back that was written since its file was last
+synced. `open` stops a `status` that opens what the stopped delivery left, and `again` stops that delivery when it comes again, each after one in four times
+STEP of the delivery's stops.
 
-After each stop the file is opened, or it is no warehouse where the making was stopped, which is then made again. It is clean, the rows of its tables, ten or twelve
-of them, are those after some of the commands, among them each whose line went out. The same commands again end with their receipts, and all twelve dumps are those
-of a run without a stop.
+After each stop the file is opened, or it is no warehouse where the making was stopped, which is then made again. It is clean, and the rows of its tables, ten or
+twelve of them, are those that the commands leave where each is sent alone: all whose lines went out, and perhaps the next one. The same commands again end with
+their receipts, and all twelve dumps are those of a run without a stop.
 """
 
 import os
@@ -21,7 +22,7 @@ import sys
 import tempfile
 
 from lib.program import program
-from lib.worked import TABLES, Answer, Count, copy, make_worked, rows_of, run, said, same, write_files
+from lib.worked import TABLES, Answer, Count, copy, make_worked, rows_of, run, said, same, without_file, write_files
 
 HERE = os.path.dirname(os.path.realpath(__file__))
 ARGUMENTS = dict(enumerate(sys.argv))
@@ -51,22 +52,26 @@ copy(f"{folder}/w", f"{folder}/upgraded")
 MADE = ["accepted 1 init: 0 records, 0 placeholders"]
 LOADED = ["accepted 6 p3: 1 records, 0 placeholders"]
 DELIVERED = [*LOADED, "accepted 7 s2: 1 records, 2 placeholders", "accepted 8 c1: 1 records, 0 placeholders"]
+ASKED = ["load w product p3 p3", "load w sales s2 s2", "check w", "load w customer c1 c1", "migrate w m1 m1"]
+IN_SESSION = [*DELIVERED[:2], "clean", DELIVERED[2], "accepted 9 m1: 0 records, 0 placeholders"]
 WITHDRAWN = ["accepted 23 v1: 1 records, 0 placeholders"]
 UPGRADED = ["accepted 21 u1: 0 records, 0 placeholders"]
 CARRIED = ["accepted 6 u1: 0 records, 0 placeholders", "accepted 7 p3: 1 records, 0 placeholders", "accepted 8 m1: 0 records, 0 placeholders"]
 
 
 class Work:
-    """Words that are stopped: the file before them or None, the lines that they print, the rows after each number of commands, and at one in how many calls."""
+    """Words that are stopped: the file before them or None, the lines that they print, what they do step by step, and at one in how many calls. A session's
+    lines are its steps."""
 
     def __init__(self, name, before, words, lines, steps, step=STEP):
         self.name, self.before, self.words, self.lines, self.step = name, before, words, lines, step
+        self.told = "".join(f"{without_file(it)}\n" for it in steps if words == "session w").encode()
         self.states = [self.start() and rows_of(f"{folder}/w")]
-        for step in steps:
-            run(PROGRAM, folder, step)
-            self.states.append(rows_of(f"{folder}/w"))
+        for it in steps:
+            if run(PROGRAM, folder, it).text.startswith(b"accepted "):
+                self.states.append(rows_of(f"{folder}/w"))
         self.start()
-        answer = run(PROGRAM, folder, words)
+        answer = run(PROGRAM, folder, words, self.told)
         if answer != Answer("".join(line + "\n" for line in lines).encode(), 0) or not same(rows_of(f"{folder}/w"), self.states[-1]):
             sys.exit(f"{name} without a stop: {answer}")
         self.dumps = dumps()
@@ -84,8 +89,21 @@ def dumps():
     return [run(PROGRAM, folder, f"dump w {table}") for table in TABLES]
 
 
-def stopped(words, number, how):
-    return run(PROGRAM, folder, words, LD_PRELOAD=f"{folder}/stop.so", STOPPED_FILE=f"{folder}/w", STOPPED_CALL=str(number), STOPPED_HOW=how, STOPPED_NOTE=f"{folder}/note")
+def stopped(words, told, number, how):
+    return run(PROGRAM, folder, words, told, LD_PRELOAD=f"{folder}/stop.so", STOPPED_FILE=f"{folder}/w", STOPPED_CALL=str(number), STOPPED_HOW=how, STOPPED_NOTE=f"{folder}/note")
+
+
+def done(out):
+    """How many commands are told by whole lines."""
+    return out[: out.rfind(b"\n") + 1].count(b"accepted ")
+
+
+def told_again(lines, kept):
+    """The lines where so many of the commands are kept."""
+    for line in lines:
+        if line.startswith("accepted ") and kept:
+            kept, line = kept - 1, line.replace("accepted", "already")
+        yield line
 
 
 def faults_after(work, name, out, least):
@@ -100,16 +118,16 @@ def faults_after(work, name, out, least):
         return [*faults, f"{name}: status {status}, check {check}"], 0
     rows = rows_of(f"{folder}/w")
     kept = next((number for number, state in enumerate(work.states) if state and same(rows, state)), None)
-    if kept is None or kept < max(least, out.count(b"\n")):
+    least = max(least, done(out))
+    if kept not in (least, least + 1):
         return [*faults, f"{name}: {out!r} went out, and the rows are those after {kept} commands"], 0
     return faults, kept
 
 
 def faults_again(work, name, kept):
     """What is wrong where the same words come again, so many of the commands being kept."""
-    answer = run(PROGRAM, folder, work.words)
-    lines = [line.replace("accepted", "already") if number < kept else line for number, line in enumerate(work.lines)]
-    wanted = Answer("".join(line + "\n" for line in lines).encode(), 0)
+    answer = run(PROGRAM, folder, work.words, work.told)
+    wanted = Answer("".join(line + "\n" for line in told_again(work.lines, kept)).encode(), 0)
     if work.before is None and kept:
         wanted = said("refused: E11 not empty")
     faults = [] if answer == wanted else [f"{name}: again it says {answer}"]
@@ -127,7 +145,7 @@ def stop_each(work, words, start, least, name):
         number = 1
         while True:
             start()
-            answer = stopped(words, number, how)
+            answer = stopped(words, work.told, number, how)
             if answer.status != STOPPED:
                 break
             with open(f"{folder}/note") as file:
@@ -155,9 +173,10 @@ making = Work("making", None, "init w policy", MADE, ["init w policy"])
 load = Work("load", "made", "load w product p3 p3", LOADED, ["load w product p3 p3"])
 void = Work("void", "upgraded", "load w void v1 v1", WITHDRAWN, ["load w void v1 v1"])
 delivery = Work("delivery", "made", "deliver w night", DELIVERED, ["load w product p3 p3", "load w sales s2 s2", "load w customer c1 c1"])
+session = Work("session", "made", "session w", [line for it in IN_SESSION for line in (it, "status 0")], ASKED)
 upgrade = Work("upgrade", "worked", "upgrade w u1", UPGRADED, ["upgrade w u1"], 4 * STEP)
 carrying = Work("carrying", "made", "deliver w carrying", CARRIED, ["upgrade w u1", "load w product p3 p3", "migrate w m1 m1"], 4 * STEP)
-for it in (making, load, void, delivery, upgrade, carrying):
+for it in (making, load, void, delivery, session, upgrade, carrying):
     if is_wanted(it.name):
         calls = stop_each(it, it.words, it.start, 0, it.name)
         tell(it.name, calls)
@@ -170,11 +189,11 @@ for name, words in (("open", "status w"), ("again", delivery.words)):
     calls, first = {}, 1
     while True:
         delivery.start()
-        answer = stopped(delivery.words, first, "")
+        answer = stopped(delivery.words, delivery.told, first, "")
         if answer.status != STOPPED:
             break
         copy(f"{folder}/w", f"{folder}/left")
-        for call, number in stop_each(delivery, words, lambda: copy(f"{folder}/left", f"{folder}/w"), answer.text.count(b"\n"), f"{name} after call {first}").items():
+        for call, number in stop_each(delivery, words, lambda: copy(f"{folder}/left", f"{folder}/w"), done(answer.text), f"{name} after call {first}").items():
             calls[call] = calls.get(call, 0) + number
         first += 4 * STEP
     tell(name, calls)

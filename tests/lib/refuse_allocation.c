@@ -1,5 +1,5 @@
-/* For tests/refused_memory.sh: loaded in front of the C library, it refuses the allocation whose number stands in
-   REFUSED_ALLOCATION (from 1), and says so by making the file that REFUSED_NOTE names. */
+/* For tests/refused_memory.sh and the sessions of tests/refused_growths.py: loaded in front of the C library, it refuses the allocation whose number stands
+   in REFUSED_ALLOCATION (from 1), and says so by making the file that REFUSED_NOTE names. */
 #define _GNU_SOURCE
 #include <dlfcn.h>
 #include <fcntl.h>

@@ -391,6 +391,24 @@ def printed(row, words):
     return next(lines for at, asked, lines in reversed(WORDS) if (at, asked) == (row, words))
 
 
+def without_file(words):
+    """Words as a session's line has them."""
+    first, _, *rest = words.split(" ")
+    return " ".join([first, *rest])
+
+
+def answers_in(text):
+    """The answers that a session printed, and what stands behind the line of the last status."""
+    answers, so_far = [], b""
+    for line in text.splitlines(True):
+        if line.startswith(b"status "):
+            answers.append(Answer(so_far, int(line.split()[1])))
+            so_far = b""
+        else:
+            so_far += line
+    return answers, so_far
+
+
 def run(program, folder, words, told=b"", **environment):
     """Runs the program in a folder, with what it is told on its standard input; it is ended, and the script with it, where it takes 20 seconds."""
     words = words.split(" ") if isinstance(words, str) else words
