@@ -4,7 +4,8 @@
 usage: tests/links.py
 
 A path is a word that begins with a folder of the repository, as docs/model.md or crates/*/specs, or a script or source that a page names in
-backticks without its folder. Words with NAME, CRATE or FOLDER in them, and what a build makes in out/, are passed over.
+backticks without its folder. Words with NAME, CRATE or FOLDER in them, and what a build makes in out/, are passed over. A page's block of `rust` has to
+stand in a source, line for line.
 """
 
 import re
@@ -18,6 +19,7 @@ LINK = re.compile(r"\[[^\]\n]*\]\(([^)\s]+)\)")
 PATH = re.compile(rf"(?<![\w/.-])((?:{FOLDERS})/[\w./*-]*[\w*/])(#[\w-]+)?")
 NAMED = re.compile(r"`(?:[\w-]+/)*([\w-]+\.(?:antt|md|py|rt|sh))`")
 PAGE = re.compile(r"\b(?:docs/\w+|(?:bench|mirror|web)/README)\.md(#[\w-]+)?")
+EXAMPLE = re.compile(r"^```rust\n(.*?)^```$", re.S | re.M)
 PLACEHOLDER = re.compile(r"(?:^|/)(?:NAME|CRATE|FOLDER)(?:[./]|$)")
 FILES = subprocess.run(["git", "ls-files"], cwd=ROOT, capture_output=True, text=True, check=True).stdout.split("\n")[:-1]
 NAMES = {Path(it).name for it in FILES}
@@ -52,6 +54,8 @@ def named_in(page):
         yield path + anchor, is_there(ROOT, path, anchor)
     for name in NAMED.findall(text):
         yield name, name in NAMES
+    for lines in EXAMPLE.findall(text):
+        yield f"an example in a source:\n{lines}", any(lines in text_of(it) for it in FILES if it.endswith(".rt"))
 
 
 def main():

@@ -43,6 +43,7 @@ mod batches;
 mod carrying;
 mod columns;
 mod deliveries;
+mod example;
 mod files;
 mod memory;
 mod planning;
