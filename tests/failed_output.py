@@ -7,8 +7,8 @@ usage: failed_output.py [PROGRAM]
 A report, a query, records, a dump of the commands, a plan and a delivery, each as it writes and in pieces of some bytes; the write fails since nobody reads, since there is
 no room, or takes nothing; it alone, or all after it too. What went out has to be a beginning of what is printed else, with the line `failed: G4 write`
 behind it where that can be written, and the status 3. The file holds what it held; after a delivery those of its commands whose lines went out whole, and the
-next one. The same of a session, which goes on behind an answer that was cut off, and ends where the line of a status was. At last all but the session into a
-pipe that is closed and into /dev/full.
+next one. The same of two sessions, of which the one loads: a session goes on behind an answer that was cut off, and ends where the line of a status was; the file
+holds what the words of the lines up to there leave, each alone. At last all but the sessions into a pipe that is closed and into /dev/full.
 """
 
 import errno
@@ -17,7 +17,7 @@ import subprocess
 import tempfile
 
 from lib.program import program
-from lib.worked import DAYS, Answer, Count, copy, make_worked, rows_of, run, said, same, write_files
+from lib.worked import DAYS, Answer, Count, copy, make_worked, rows_of, run, said, same, without_file, write_files
 
 HERE = os.path.dirname(os.path.realpath(__file__))
 PROGRAM = program(1)
@@ -104,35 +104,49 @@ def answers_of(whole):
 
 
 def session_texts(whole):
-    """What a session may print where one write fails: a beginning of an answer, its line, and the others; or all up to a beginning of the line of a status."""
+    """What a session may print where one write fails, and how many of its lines are answered then: a beginning of an answer, its line, and the others; or all up
+    to a beginning of the line of a status."""
     answers = answers_of(whole)
     for place, answer in enumerate(answers):
         before, after = b"".join(answers[:place]), b"".join(answers[place + 1 :])
         text = answer[: answer.rindex(b"status ")]
-        yield from (before + text[:kept] + LINE + b"status 3\n" + after for kept in range(len(text)))
-        yield from (before + answer[:kept] for kept in range(len(text), len(answer)))
+        yield from ((before + text[:kept] + LINE + b"status 3\n" + after, len(answers)) for kept in range(len(text)))
+        yield from ((before + answer[:kept], place + 1) for kept in range(len(text), len(answer)))
 
 
-def fail_session(lines):
-    """Makes each write of a session fail, in each way."""
-    told = "".join(f"{line}\n" for line in lines).encode()
+def states_of(file, asked):
+    """The rows of a file, and those behind each of the words that are asked of it."""
+    copy(f"{folder}/{file}", f"{folder}/w")
+    states = [rows_of(f"{folder}/w")]
+    for words in asked:
+        run(PROGRAM, folder, words)
+        states.append(rows_of(f"{folder}/w"))
+    return states
+
+
+def fail_session(file, asked):
+    """Makes each write of a session of these words over a file fail, in each way."""
+    told, states = "".join(f"{without_file(words)}\n" for words in asked).encode(), states_of(file, asked)
+    copy(f"{folder}/{file}", f"{folder}/w")
     whole = run(PROGRAM, folder, "session w", told)
-    count.case([] if whole.status == 0 and len(answers_of(whole.text)) == len(lines) else f"a session: {whole}")
-    allowed, before, note, runs = set(session_texts(whole.text)), rows_of(f"{folder}/w"), f"{folder}/note", 0
+    count.case([] if whole.status == 0 and len(answers_of(whole.text)) == len(asked) else f"a session: {whole}")
+    allowed, note, runs = dict(session_texts(whole.text)), f"{folder}/note", 0
     for error in (errno.EPIPE, errno.ENOSPC, 0):
         for since in ({}, {"FAILED_SINCE": "1"}):
             for number in range(1, 1_000):
                 if os.path.exists(note):
                     os.remove(note)
+                copy(f"{folder}/{file}", f"{folder}/w")
                 failing = {"FAILED_WRITE": str(number), "FAILED_ERROR": str(error), "FAILED_PART": "0", "FAILED_NOTE": note, **since}
                 answer = run(PROGRAM, folder, "session w", told, LD_PRELOAD=f"{folder}/fail.so", **failing)
                 if not os.path.exists(note):
                     break
-                is_cut = whole.text.startswith(answer.text) and len(answer.text) < len(whole.text) if since else answer.text in allowed
-                count.case([] if is_cut and answer.status == 3 else f"a session, write {number} fails, error {error}: {answer}")
+                answered = len(answers_of(answer.text)) + 1 if since else allowed.get(answer.text, 0)
+                is_cut = whole.text.startswith(answer.text) and len(answer.text) < len(whole.text) if since else answered > 0
+                is_right = is_cut and answer.status == 3 and same(rows_of(f"{folder}/w"), states[answered])
+                count.case([] if is_right else f"a session over {file}, write {number} fails, error {error}: {answer}")
                 runs += 1
-    count.case([] if same(rows_of(f"{folder}/w"), before) else "a session: the rows are others now")
-    print(f"a session: {runs} runs in which a write fails", flush=True)
+    print(f"a session over {file}: {runs} runs in which a write fails", flush=True)
 
 
 def unread(words, whole, is_kept):
@@ -163,8 +177,8 @@ for file, words, part in RUNS:
         fail_each(words, whole.text, size)
     unread(words, whole.text, kept_by_delivery if words.startswith("deliver ") else lambda name, text: [])
 
-copy(f"{folder}/after11", f"{folder}/w")
-fail_session(["status", AGE.replace(" w ", " "), "check", QUERY.replace(" w ", " "), "dump product"])
+fail_session("after11", ["status w", AGE, "check w", QUERY, "dump w product"])
+fail_session("after3", ["load w product p3 p3", AGE, "load w sales s2 s2", "migrate w m1 m1", "check w", "upgrade w u1"])
 
 # the last run's file is what its commands define
 copy(f"{folder}/after3", f"{folder}/w")
