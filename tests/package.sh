@@ -67,7 +67,7 @@ same "the kit" "$(sed -n 's/^kit *//p' PROVED)" "$(rt version)"
 same "the program's sum" "$(grep -c "$(sha256sum < "$program" | cut -d ' ' -f 1)" PROVED)" 1
 same "the sums" "$(sha256sum -c --quiet SHA256SUMS 2>&1)" ""
 same "the files with a sum" "$(cut -c 67- SHA256SUMS | LC_ALL=C sort)" "$(find . -type f ! -name SHA256SUMS | cut -c 3- | LC_ALL=C sort)"
-same "the parts" "$(for part in bin/wh share/man/man1/wh.1 share/bash-completion/completions/wh share/zsh/site-functions/_wh docs/cli.md examples/shop/policy.toml mirror/wh-mirror tools/wh-batches web/wh-web; do [ -s $part ] || echo "$part"; done)" ""
+same "the parts" "$(for part in bin/wh share/man/man1/wh.1 share/bash-completion/completions/wh share/zsh/site-functions/_wh docs/cli.md examples/shop/policy.toml mirror/wh-mirror tools/wh-batches tools/wh-doctor web/wh-web; do [ -s $part ] || echo "$part"; done)" ""
 same "what it is linked with" "$(ldd bin/wh | grep 'not found' || true)" ""
 same "its symbols" "$(readelf --sections bin/wh | grep -c -e '[.]debug_' -e '[.]symtab' || true)" 0
 page=$OLDPWD/tests/lib/page.sh
@@ -134,7 +134,7 @@ fresh() {
 
 if fresh; then
     same "in a fresh Debian" "$(cat "$work/answers")" "$(printf '%s\n' "the kit: ls: cannot access '/opt/rattle': No such file or directory" \
-        'the archive: right' "the version: $("$program" --version)" 'the files:  /usr/bin/wh /usr/bin/wh-batches /usr/bin/wh-mirror /usr/bin/wh-page /usr/bin/wh-web ' 'the package: right' 'what is left: ')"
+        'the archive: right' "the version: $("$program" --version)" 'the files:  /usr/bin/wh /usr/bin/wh-batches /usr/bin/wh-doctor /usr/bin/wh-mirror /usr/bin/wh-page /usr/bin/wh-web ' 'the package: right' 'what is left: ')"
 else
     echo "passed over: mmdebstrap can make no fresh Debian here"
     [ ! -s "$work/made" ] || tail -n 3 "$work/made"
