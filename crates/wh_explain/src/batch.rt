@@ -2,22 +2,25 @@
 
 use crate::encoding::{other_separator, push_encoding_line};
 use crate::field::push_reason;
+use crate::further::further_faults;
 use crate::header::{Header, push_wrong_header};
 use crate::kind::NO_VOIDS;
 use crate::row::{count_of, first_line, lines_of, push_column, push_line, push_more};
 use crate::shown::{push_number, push_quoted, push_text};
 use crate::wanted::push_years;
-use std::alloc::AllocError;
+use std::alloc::{AllocError, Global};
 use wh_batch::{
-    BATCH_LIMIT, Column, FaultKind, Faults, FaultyField, Holds, ListedFault, MOST_RECORDS,
+    BATCH_LIMIT, Column, FaultKind, Faults, FaultyField, Holds, Kind, ListedFault, MOST_RECORDS,
 };
-use wh_policy::Years;
+use wh_policy::{Format, Policy, Years};
 
 /// What a batch is judged by, and its bytes.
 #[derive(Drop)]
 pub(crate) struct Batch<'a> {
+    pub(crate) kind: Kind,
+    pub(crate) policy: &'a Policy,
+    pub(crate) format: Format,
     pub(crate) columns: &'a [Column<'a>],
-    pub(crate) years: Years,
     pub(crate) bytes: &'a [u8],
 }
 
@@ -140,7 +143,7 @@ fn push_field(
     push_column(text, batch.columns, field.place)?;
     push_quoted(text, field.text.as_bytes())?;
     if matches!(kind, FaultKind::OutsideCalendar) {
-        return push_outside(text, batch.years);
+        return push_outside(text, batch.policy.years);
     }
     match batch.columns.get(field.place) {
         Some(column) => push_reason(text, column.holds(), field.text.as_bytes()),
@@ -179,23 +182,50 @@ fn push_row(text: &mut Vec<u8>, batch: &Batch, fault: &ListedFault) -> Result<()
     push_text(text, "\n")
 }
 
-/// The line on a fault, or the lines on a wrong header.
-fn push_fault(text: &mut Vec<u8>, batch: &Batch, fault: &ListedFault) -> Result<(), AllocError> {
+/// The lines on the faults of a row's fields beside the one that was told of it.
+fn push_further(
+    text: &mut Vec<u8>,
+    alloc: Global,
+    batch: &Batch,
+    told: &ListedFault,
+) -> Result<(), AllocError> {
+    let further = further_faults(alloc, batch, told)?;
+    for found in &further {
+        if let Some(field) = &found.field {
+            push_line(text, batch.bytes, told.row.start)?;
+            push_field(text, batch, found.fault.kind, field)?;
+            push_text(text, "\n")?;
+        }
+    }
+    Ok(())
+}
+
+/// The lines on the faults of a row, or on a fault of the batch.
+fn push_fault(
+    text: &mut Vec<u8>,
+    alloc: Global,
+    batch: &Batch,
+    fault: &ListedFault,
+) -> Result<(), AllocError> {
     match fault.fault.fault.kind {
         FaultKind::TooLarge => push_too_large(text, fault, batch.bytes),
         FaultKind::NotInFormat => push_text(text, NO_VOIDS),
-        _ => push_row(text, batch, fault),
+        _ => {
+            push_row(text, batch, fault)?;
+            push_further(text, alloc, batch, fault)
+        }
     }
 }
 
-/// The lines on the faults that are listed, and how many more there are.
+/// The lines on the faults of the rows that are listed, and how many more rows have some.
 pub(crate) fn push_faults(
     text: &mut Vec<u8>,
+    alloc: Global,
     batch: &Batch,
     faults: &Faults,
 ) -> Result<(), AllocError> {
     for fault in &faults.listed {
-        push_fault(text, batch, fault)?;
+        push_fault(text, alloc, batch, fault)?;
     }
     push_more(text, faults.more)
 }

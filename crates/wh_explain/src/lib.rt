@@ -6,6 +6,7 @@ mod code_pages;
 mod encoding;
 mod explanation;
 mod field;
+mod further;
 mod header;
 mod kind;
 mod left_out;

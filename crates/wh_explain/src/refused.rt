@@ -11,8 +11,8 @@ use wh_batch::{CommandKind, Kind, columns_of, faults};
 use wh_day::ParseError;
 use wh_policy::Policy;
 
-/// The most faults that are listed.
-const MOST_FAULTS: usize = 20;
+/// The most records whose faults are listed.
+const MOST_FAULTY: usize = 20;
 
 /// The faults of a batch.
 fn push_batch(
@@ -27,15 +27,17 @@ fn push_batch(
         sent.policy,
         sent.format,
         sent.bytes,
-        MOST_FAULTS,
+        MOST_FAULTY,
     )?;
     let columns = columns_of(alloc, kind, sent.policy, sent.format)?;
     let batch = Batch {
+        kind,
+        policy: sent.policy,
+        format: sent.format,
         columns: &columns,
-        years: sent.policy.years,
         bytes: sent.bytes,
     };
-    push_faults(text, &batch, &found)
+    push_faults(text, alloc, &batch, &found)
 }
 
 /// What a policy that doesn't fit lacks.

@@ -235,6 +235,49 @@ run explain w sales b.csv
 = status 2
 "#;
 
+/// Records with several faults, under the policy of `explained::WANTED`.
+pub const SEVERAL: &str = r#"
+policy policy.toml
+run init w policy.toml
+= accepted 1 init: 0 records, 0 placeholders
+= status 0
+
+# In all fields but two; in one behind a day outside the calendar; none, though a record with a fault has its key; a key twice, and outside.
+file several.csv
+> ticket,line,day,store,product,customer,quantity,amount,cost
+> T 1,0,31.12.2024,S1,P1,C 1,1.5,"1,50",
+> T2,1,2027-01-01,S1,P1,,1,x,1.00
+> T2,1,2024-01-01,S1,P1,,1,1.00,1.00
+> T2,1,2027-01-02,S1,P1,,1,1.00,1.00
+run explain w sales several.csv
+= refused: E3 batch, B4 bad key, record 1
+= line 2, column 1 "ticket": 'T 1' has a blank at byte 2; wanted: 1 to 20 letters A-Z or a-z, digits, -, _ and .
+= line 2, column 2 "line": '0' is no line; wanted: a whole number from 1 to 9999
+= line 2, column 3 "day": '31.12.2024' is written DD.MM.YYYY; wanted: a day as YYYY-MM-DD
+= line 2, column 6 "customer": 'C 1' has a blank at byte 2; wanted: nothing, or 1 to 32 letters A-Z or a-z, digits, -, _ and .
+= line 2, column 7 "quantity": '1.5' has decimals; wanted: a whole number from -9999 to 9999
+= line 2, column 8 "amount": '1,50' has a decimal comma; wanted: a number such as 12.50 or -3, with up to 7 digits and up to 2 behind a point
+= line 2, column 9 "cost": '' is empty; wanted: a number such as 12.50 or -3, with up to 7 digits and up to 2 behind a point
+= line 3, column 8 "amount": 'x' has 'x' at byte 1; wanted: a number such as 12.50 or -3, with up to 7 digits and up to 2 behind a point
+= line 3, column 3 "day": '2027-01-01' is outside the calendar, which has the years 2023 to 2026
+= line 5: an earlier record has the same ticket and line: 'T2,1,2027-01-02,S1,P1,,1,1.00,1.00'
+= line 5, column 3 "day": '2027-01-02' is outside the calendar, which has the years 2023 to 2026
+= status 2
+
+# Quotes within fields, line ends, and bytes that no text has.
+bytes quoted.csv id,day,city\r\n"S""1",2024-1-1,"(a\nb)"\r\nS2,"2024-13-01","a\nb""c"\r\nS3,,Z\xFCrich\r\n
+run explain w store quoted.csv
+= refused: E3 batch, B4 bad key, record 1
+= line 2, column 1 "id": 'S"1' has '"' at byte 2; wanted: 1 to 32 letters A-Z or a-z, digits, -, _ and .
+= line 2, column 2 "day": '2024-1-1' is written in another way; wanted: a day as YYYY-MM-DD, from 1900-01-01 to 2199-12-31
+= line 2, column 3 "city": '(a\nb)' begins with (; wanted: nothing, or up to 60 bytes of UTF-8 without control characters and without ( in front
+= line 4, column 2 "day": '2024-13-01' is no real day; wanted: a day as YYYY-MM-DD, from 1900-01-01 to 2199-12-31
+= line 4, column 3 "city": 'a\nb"c' has a line end (a quote not closed?) at byte 2; wanted: nothing, or up to 60 bytes of UTF-8 without control characters and without ( in front
+= line 6, column 2 "day": '' is empty; wanted: a day as YYYY-MM-DD, from 1900-01-01 to 2199-12-31
+= line 6, column 3 "city": 'Z\xfcrich' is no UTF-8 at byte 2; it looks like Latin-1
+= status 2
+"#;
+
 /// Policies, and a batch with a record too many.
 pub const POLICIES: &str = r#"
 policy policy.toml

@@ -36,6 +36,11 @@ fn sales(rt: HostRuntime) -> Result<(), Fail> {
 }
 
 #[test]
+fn several(rt: HostRuntime) -> Result<(), Fail> {
+    check::<ProgramDriver>(rt.alloc(), &[explained_faults::SEVERAL])
+}
+
+#[test]
 fn policies(rt: HostRuntime) -> Result<(), Fail> {
     check::<ProgramDriver>(rt.alloc(), &[explained_faults::POLICIES])
 }
