@@ -113,12 +113,12 @@ the_day_after = refl
 abbrev sale : List ℕ → ℤ → ℤ → ℤ → Sold
 sale label quantity amount cost = record { label = label; measures = record { quantity = quantity; amount = amount; cost = cost } }
 
-abbrev pub titles : List ℕ
-titles = codes "   lines   quantity         amount           cost         margin  label\n"
+abbrev pub title_line : List ℕ
+title_line = codes "   lines   quantity         amount           cost         margin  label\n"
 
 by_age_band : report_text (codes "customer.age_band") (codes "was") (codes "2023-01-01") (codes "2026-12-31")
     (sale (codes "(no card)") (pos 1) (pos 250) (pos 160) ∷ sale (codes "30-39") (pos 1) (pos 1000) (pos 700) ∷ sale (codes "(no card)") (pos 2) (pos 500) (pos 320) ∷ [])
-    ≡ codes "report customer.age_band was 2023-01-01 2026-12-31\n" ++ titles
+    ≡ codes "report customer.age_band was 2023-01-01 2026-12-31\n" ++ title_line
     ++ codes "       2          3           7.50           4.80           2.70  (no card)\n"
     ++ codes "       1          1          10.00           7.00           3.00  30-39\n"
     ++ codes "       3          4          17.50          11.80           5.70  total\n"
@@ -144,7 +144,7 @@ margins_together = refl
 
 by_category_as_it_was : report_text (codes "product.category") (codes "was") (codes "2023-01-01") (codes "2026-12-31")
     (sale (codes "Drinks") (pos 1) (pos 250) (pos 160) ∷ sale (codes "Drinks") (pos 2) (pos 500) (pos 320) ∷ sale (codes "Drinks") (pos 1) (pos 1000) (pos 700) ∷ sale (codes "Drinks") (pos 1) (pos 250) (pos 160) ∷ [])
-    ≡ codes "report product.category was 2023-01-01 2026-12-31\n" ++ titles
+    ≡ codes "report product.category was 2023-01-01 2026-12-31\n" ++ title_line
     ++ codes "       4          5          20.00          13.40           6.60  Drinks\n"
     ++ codes "       4          5          20.00          13.40           6.60  total\n"
 unfolding report_text heading titles summed lines summary_text line_text money hundredths aligned digits
@@ -152,7 +152,7 @@ by_category_as_it_was = refl
 
 by_category_as_it_is : report_text (codes "product.category") (codes "is") (codes "2023-01-01") (codes "2026-12-31")
     (sale (codes "Soft drinks") (pos 1) (pos 250) (pos 160) ∷ sale (codes "Soft drinks") (pos 2) (pos 500) (pos 320) ∷ sale (codes "Drinks") (pos 1) (pos 1000) (pos 700) ∷ sale (codes "Soft drinks") (pos 1) (pos 250) (pos 160) ∷ [])
-    ≡ codes "report product.category is 2023-01-01 2026-12-31\n" ++ titles
+    ≡ codes "report product.category is 2023-01-01 2026-12-31\n" ++ title_line
     ++ codes "       1          1          10.00           7.00           3.00  Drinks\n"
     ++ codes "       3          4          10.00           6.40           3.60  Soft drinks\n"
     ++ codes "       4          5          20.00          13.40           6.60  total\n"
@@ -161,7 +161,7 @@ by_category_as_it_is = refl
 
 by_supplier : report_text (codes "product.supplier") (codes "prior") (codes "2023-01-01") (codes "2026-12-31")
     (sale (codes "East") (pos 1) (pos 250) (pos 160) ∷ sale (codes "East") (pos 2) (pos 500) (pos 320) ∷ sale (codes "(none)") (pos 1) (pos 1000) (pos 700) ∷ sale (codes "East") (pos 1) (pos 250) (pos 160) ∷ [])
-    ≡ codes "report product.supplier prior 2023-01-01 2026-12-31\n" ++ titles
+    ≡ codes "report product.supplier prior 2023-01-01 2026-12-31\n" ++ title_line
     ++ codes "       1          1          10.00           7.00           3.00  (none)\n"
     ++ codes "       3          4          10.00           6.40           3.60  East\n"
     ++ codes "       4          5          20.00          13.40           6.60  total\n"
@@ -170,7 +170,7 @@ by_supplier = refl
 
 by_month_as_it_was : report_text (codes "date.month") (codes "was") (codes "2023-01-01") (codes "2026-12-31")
     (sale (codes "2023-12") (pos 1) (pos 250) (pos 160) ∷ sale (codes "2024-02") (pos 2) (pos 500) (pos 320) ∷ sale (codes "2024-06") (pos 1) (pos 1000) (pos 700) ∷ sale (codes "2024-02") (pos 1) (pos 250) (pos 160) ∷ [])
-    ≡ codes "report date.month was 2023-01-01 2026-12-31\n" ++ titles
+    ≡ codes "report date.month was 2023-01-01 2026-12-31\n" ++ title_line
     ++ codes "       1          1           2.50           1.60           0.90  2023-12\n"
     ++ codes "       2          3           7.50           4.80           2.70  2024-02\n"
     ++ codes "       1          1          10.00           7.00           3.00  2024-06\n"
@@ -180,7 +180,7 @@ by_month_as_it_was = refl
 
 -- no sale is in the range
 of_no_sale : report_text (codes "product.category") (codes "is") (codes "2025-01-01") (codes "2025-12-31") []
-    ≡ codes "report product.category is 2025-01-01 2025-12-31\n" ++ titles
+    ≡ codes "report product.category is 2025-01-01 2025-12-31\n" ++ title_line
     ++ codes "       0          0           0.00           0.00           0.00  total\n"
 unfolding report_text heading titles summed lines summary_text line_text money hundredths aligned digits
 of_no_sale = refl

@@ -19,7 +19,7 @@ use Rattle.wh_batch.specs.declared.mode.Mode.TheVariants.{Was, Is, Prior}
 use Rattle.wh_report.specs.declared.subject.Reading.TheVariants.{AtSaleDay, Latest, PriorValue}
 use Rattle.wh_report.specs.declared.subject.Subject.{Subject}
 use Rattle.wh_report.specs.declared.subject.Subject.TheVariants.{Attribute, Month, Holiday}
-use Rattle.wh_report.proofs.Worked.{policy, titles}
+use Rattle.wh_report.proofs.Worked.{policy, title_line}
 
 -- ---- what was accepted
 
@@ -85,7 +85,7 @@ abbrev city : Subject
 city = Attribute (record { dim = Store; place = 0; kind = NewRow })
 
 by_age_band_then : report commands age_band AtSaleDay (of_four_years (codes "customer.age_band") Was)
-    ≡ codes "report customer.age_band was 2023-01-01 2026-12-31\n" ++ titles
+    ≡ codes "report customer.age_band was 2023-01-01 2026-12-31\n" ++ title_line
     ++ codes "       2          3           7.50           4.80           2.70  (no card)\n"
     ++ codes "       1          1          10.00           7.00           3.00  30-39\n"
     ++ codes "       3          4          17.50          11.80           5.70  total\n"
@@ -93,7 +93,7 @@ unfolding policy_on_literals report_text heading titles summed lines summary_tex
 by_age_band_then = refl
 
 by_age_band_now : report commands age_band Latest (of_four_years (codes "customer.age_band") Is)
-    ≡ codes "report customer.age_band is 2023-01-01 2026-12-31\n" ++ titles
+    ≡ codes "report customer.age_band is 2023-01-01 2026-12-31\n" ++ title_line
     ++ codes "       2          3           7.50           4.80           2.70  (no card)\n"
     ++ codes "       1          1          10.00           7.00           3.00  40-49\n"
     ++ codes "       3          4          17.50          11.80           5.70  total\n"
@@ -101,14 +101,14 @@ unfolding policy_on_literals report_text heading titles summed lines summary_tex
 by_age_band_now = refl
 
 by_category_then : report later category AtSaleDay (of_four_years (codes "product.category") Was)
-    ≡ codes "report product.category was 2023-01-01 2026-12-31\n" ++ titles
+    ≡ codes "report product.category was 2023-01-01 2026-12-31\n" ++ title_line
     ++ codes "       4          5          20.00          13.40           6.60  Drinks\n"
     ++ codes "       4          5          20.00          13.40           6.60  total\n"
 unfolding policy_on_literals report_text heading titles summed lines summary_text line_text money hundredths aligned digits
 by_category_then = refl
 
 by_month_without_the_line : report withdrawn Month AtSaleDay (of_four_years (codes "date.month") Was)
-    ≡ codes "report date.month was 2023-01-01 2026-12-31\n" ++ titles
+    ≡ codes "report date.month was 2023-01-01 2026-12-31\n" ++ title_line
     ++ codes "       1          1           2.50           1.60           0.90  2023-12\n"
     ++ codes "       1          1           2.50           1.60           0.90  2024-02\n"
     ++ codes "       1          1          10.00           7.00           3.00  2024-06\n"
@@ -117,7 +117,7 @@ unfolding policy_on_literals report_text heading titles summed lines summary_tex
 by_month_without_the_line = refl
 
 by_category_now : report later category Latest (of_four_years (codes "product.category") Is)
-    ≡ codes "report product.category is 2023-01-01 2026-12-31\n" ++ titles
+    ≡ codes "report product.category is 2023-01-01 2026-12-31\n" ++ title_line
     ++ codes "       1          1          10.00           7.00           3.00  Drinks\n"
     ++ codes "       3          4          10.00           6.40           3.60  Soft drinks\n"
     ++ codes "       4          5          20.00          13.40           6.60  total\n"
@@ -125,13 +125,13 @@ unfolding policy_on_literals report_text heading titles summed lines summary_tex
 by_category_now = refl
 
 by_category_in_2025 : report later category Latest (record { words = codes "product.category"; mode = Is; from = 20250101; to = 20251231 })
-    ≡ codes "report product.category is 2025-01-01 2025-12-31\n" ++ titles
+    ≡ codes "report product.category is 2025-01-01 2025-12-31\n" ++ title_line
     ++ codes "       0          0           0.00           0.00           0.00  total\n"
 unfolding policy_on_literals report_text heading titles summed lines summary_text line_text money hundredths aligned digits
 by_category_in_2025 = refl
 
 by_supplier_before : report later supplier PriorValue (of_four_years (codes "product.supplier") Prior)
-    ≡ codes "report product.supplier prior 2023-01-01 2026-12-31\n" ++ titles
+    ≡ codes "report product.supplier prior 2023-01-01 2026-12-31\n" ++ title_line
     ++ codes "       1          1          10.00           7.00           3.00  (none)\n"
     ++ codes "       3          4          10.00           6.40           3.60  East\n"
     ++ codes "       4          5          20.00          13.40           6.60  total\n"
@@ -139,7 +139,7 @@ unfolding policy_on_literals report_text heading titles summed lines summary_tex
 by_supplier_before = refl
 
 by_month : report later Month AtSaleDay (of_four_years (codes "date.month") Was)
-    ≡ codes "report date.month was 2023-01-01 2026-12-31\n" ++ titles
+    ≡ codes "report date.month was 2023-01-01 2026-12-31\n" ++ title_line
     ++ codes "       1          1           2.50           1.60           0.90  2023-12\n"
     ++ codes "       2          3           7.50           4.80           2.70  2024-02\n"
     ++ codes "       1          1          10.00           7.00           3.00  2024-06\n"
@@ -149,14 +149,14 @@ by_month = refl
 
 -- the last day of February is the last of the range; no record describes the store, and no day is a holiday
 by_city_in_february : report later city AtSaleDay (record { words = codes "store.city"; mode = Was; from = 20240201; to = 20240229 })
-    ≡ codes "report store.city was 2024-02-01 2024-02-29\n" ++ titles
+    ≡ codes "report store.city was 2024-02-01 2024-02-29\n" ++ title_line
     ++ codes "       2          3           7.50           4.80           2.70  (unknown)\n"
     ++ codes "       2          3           7.50           4.80           2.70  total\n"
 unfolding policy_on_literals report_text heading titles summed lines summary_text line_text money hundredths aligned digits
 by_city_in_february = refl
 
 by_holiday : report later Holiday AtSaleDay (of_four_years (codes "date.holiday") Is)
-    ≡ codes "report date.holiday is 2023-01-01 2026-12-31\n" ++ titles
+    ≡ codes "report date.holiday is 2023-01-01 2026-12-31\n" ++ title_line
     ++ codes "       4          5          20.00          13.40           6.60  (none)\n"
     ++ codes "       4          5          20.00          13.40           6.60  total\n"
 unfolding policy_on_literals report_text heading titles summed lines summary_text line_text money hundredths aligned digits
