@@ -9,8 +9,9 @@ use Rattle.wh_program.specs.Inputs.{Files, Refusals}
 use Rattle.wh_program.specs.Tasks.{Stores}
 use Rattle.wh_program.specs.Answer.{failed, wrong_words}
 use Rattle.wh_program.specs.Run.{Prints, out_of_memory}
-use Rattle.wh_session.specs.Line.{Meaning, Passed, NoCommand, Words, IsNext, IsRead, line_limit, meaning_of, with_file}
-use Rattle.wh_session.specs.declared.line.Line.TheVariants as line
+use Rattle.wh_words.specs.Line.{Meaning, Passed, NoCommand, Words, IsRead, line_limit, meaning_of}
+use Rattle.wh_words.specs.declared.line.Line.TheVariants as line
+use Rattle.wh_session.specs.Line.{IsNext, with_file}
 use Rattle.wh_session.specs.Session.{AllGo, Fails, Goes, IsAnswered, LosesInput, OnlyPrints, RunsWords, Session, Stops, no_command_text, no_input_line}
 use Rattle.wh_session.proofs.LineLemmas.{meaning_so}
 

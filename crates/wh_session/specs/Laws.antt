@@ -2,7 +2,7 @@
 use Rattle.std.specs.Prelude.{◌≡◌, ℕ, List, [], ◌∷◌, ◌++◌, Option, max}
 use Rattle.wh_program.specs.Inputs.{Files, Refusals}
 use Rattle.wh_program.specs.Tasks.{Stores}
-use Rattle.wh_session.specs.Line.{meaning_of}
+use Rattle.wh_words.specs.Line.{meaning_of}
 use Rattle.wh_session.specs.Session.{AllGo, Goes}
 
 -- a session of one line does what the line does

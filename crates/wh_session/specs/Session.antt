@@ -9,7 +9,8 @@ use Rattle.wh_program.specs.Inputs.{Files, Refusals}
 use Rattle.wh_program.specs.Run.{Declines, GoesOut, Prints, out_of_memory}
 use Rattle.wh_program.specs.Tasks.{Runs, Stores}
 use Rattle.wh_program.specs.Warehouse.{printed}
-use Rattle.wh_session.specs.Line.{Meaning, Passed, NoCommand, Words, meaning_of, with_file}
+use Rattle.wh_words.specs.Line.{Meaning, Passed, NoCommand, Words, meaning_of}
+use Rattle.wh_session.specs.Line.{with_file}
 
 -- what ends an answer
 abbrev pub status_line : ℕ → List ℕ

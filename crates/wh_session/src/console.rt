@@ -1,7 +1,8 @@
 //! Where the lines of a session come from.
 
 ghost use Rattle.std.specs.Prelude.{◌≡◌, ◌++◌, ◌∷◌, [], ℕ, suc, List, Option, Some, None, IfOk, OnOk, option_map, take};
-ghost use Rattle.wh_session.specs.Line.{IsNext, IsNextByte, last_line, lines_of};
+ghost use Rattle.wh_words.specs.Line.{lines_of};
+ghost use Rattle.wh_session.specs.Line.{IsNext, IsNextByte, last_line};
 
 use std::alloc::Global;
 use std::io;

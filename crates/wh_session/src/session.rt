@@ -7,18 +7,19 @@ ghost use Rattle.wh_program.specs.Run.{Prints, out_of_memory};
 ghost use Rattle.wh_words.specs.CommandLine.{CommandLine, Says};
 ghost use Rattle.wh_words.specs.Request.{asked_in};
 ghost use Rattle.wh_words.specs.Task.{Session as SessionAsked, asked_by, task_of};
-ghost use Rattle.wh_session.specs.Line.{Passed, meaning_of, with_file};
+ghost use Rattle.wh_words.specs.Line.{Passed, meaning_of};
+ghost use Rattle.wh_session.specs.Line.{with_file};
 ghost use Rattle.wh_session.specs.Session.{Goes, IsAnswered, IsBegun, OnlyPrints, RunsWords, Session, Stops, no_input_line, session_of, status_line};
 
 use crate::console::Console;
-use crate::line::{LINE_LIMIT, Line, read_line, with_file};
+use crate::line::with_file;
 use itoa::Buffer;
 use std::alloc::{AllocError, Global};
 use std::convert::AsStr;
 use std::io::Write;
 use wh_program::{Host, HostError, no_file, print_answer, print_usage};
 use wh_report::{WriteFailed, write_whole};
-use wh_words::{Request, Task, parse};
+use wh_words::{LINE_LIMIT, Line, Request, Task, parse, read_line};
 
 /// What is printed for a line that is no command.
 const NO_COMMAND_TEXT: &[u8] =

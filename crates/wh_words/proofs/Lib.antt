@@ -8,3 +8,5 @@ pub mod WordLemmas
 pub mod CommandFaults
 pub mod PlainWords
 pub mod TableNames
+pub mod LineLemmas
+pub mod QueryListLemmas

@@ -8,12 +8,12 @@ use Rattle.clap.specs.Faults.{step_fault}
 use Rattle.clap.specs.Simple.{label_of, names_of}
 use Rattle.clap.specs.Walk.{Names, answers_to, nothing_held, value}
 use Rattle.clap.specs.declared.error.kind.ErrorKind.TheVariants.{DisplayHelp, InvalidSubcommand, MissingRequiredArgument, MissingSubcommand, UnknownArgument}
-use Rattle.wh_words.specs.CommandLine.{CommandLine, Trial, Init, Load, Migrate, Upgrade, Deliver, Plan, Explain, Records, Query, Report, Reports, Dump, Check, Status, Session, program_app, is_operand, Says}
+use Rattle.wh_words.specs.CommandLine.{CommandLine, Trial, Init, Load, Migrate, Upgrade, Deliver, Plan, Explain, Records, Query, Report, Reports, Queries, Dump, Check, Status, Session, program_app, is_operand, Says}
 use Rattle.wh_words.specs.Task.{faults_in, asked_by}
 use Rattle.wh_words.proofs.CommandFaults.{not_asked, no_words}
 use Rattle.wh_words.proofs.CommandWords.{end_of, goes_by}
 use Rattle.wh_words.proofs.Operands.{are_in_list, are_operands, plain}
-use Rattle.wh_words.proofs.Program.{bare, commands, commands_on_literals, top_faultless, trial_met, explain_met, records_met, query_met, init_met, load_met, migrate_met, upgrade_met, deliver_met, report_met, reports_met, dump_met, status_met, session_met, plan_met, check_met}
+use Rattle.wh_words.proofs.Program.{bare, commands, commands_on_literals, top_faultless, trial_met, explain_met, records_met, query_met, init_met, load_met, migrate_met, upgrade_met, deliver_met, report_met, reports_met, queries_met, dump_met, status_met, session_met, plan_met, check_met}
 use Rattle.wh_words.proofs.Reading.{Meets, end_fault, fault_is, first_faulty, flows, level_is, level_strays, operands_fault, start, unknown}
 use Rattle.wh_history.proofs.Basics.{both_true}
 use Rattle.wh_rows.proofs.ColumnLemmas.{both}
@@ -150,6 +150,13 @@ reports_fits (f ∷ []) is = lacks _ _ reports_met (f ∷ []) is refl
 reports_fits (f ∷ l ∷ []) is = inl (Reports f l, record { words_are = refl; operands = each f (l ∷ []) is })
 reports_fits (f ∷ l ∷ x ∷ more) is = strays _ _ reports_met (f ∷ l ∷ x ∷ []) more is refl
 
+queries_fits : (rest : List Text) → list_all is_operand rest ≡ true → Fits (codes "queries" ∷ rest)
+unfolding commands_on_literals
+queries_fits [] is = lacks _ _ queries_met [] is refl
+queries_fits (f ∷ []) is = lacks _ _ queries_met (f ∷ []) is refl
+queries_fits (f ∷ l ∷ []) is = inl (Queries f l, record { words_are = refl; operands = each f (l ∷ []) is })
+queries_fits (f ∷ l ∷ x ∷ more) is = strays _ _ queries_met (f ∷ l ∷ x ∷ []) more is refl
+
 dump_fits : (rest : List Text) → list_all is_operand rest ≡ true → Fits (codes "dump" ∷ rest)
 unfolding commands_on_literals
 dump_fits [] is = lacks _ _ dump_met [] is refl
@@ -200,6 +207,7 @@ every_name =
     ∷ record { name = codes "deliver"; fits_behind = deliver_fits }
     ∷ record { name = codes "report"; fits_behind = report_fits }
     ∷ record { name = codes "reports"; fits_behind = reports_fits }
+    ∷ record { name = codes "queries"; fits_behind = queries_fits }
     ∷ record { name = codes "dump"; fits_behind = dump_fits }
     ∷ record { name = codes "status"; fits_behind = status_fits }
     ∷ record { name = codes "session"; fits_behind = session_fits }

@@ -91,6 +91,9 @@ report_app = command_app (codes "report") (codes "FILE" ∷ codes "ATTRIBUTE" �
 abbrev pub reports_app : App
 reports_app = command_app (codes "reports") (codes "FILE" ∷ codes "LIST" ∷ [])
 
+abbrev pub queries_app : App
+queries_app = command_app (codes "queries") (codes "FILE" ∷ codes "LIST" ∷ [])
+
 abbrev pub dump_app : App
 dump_app = command_app (codes "dump") (codes "FILE" ∷ codes "TABLE" ∷ [])
 
@@ -114,7 +117,7 @@ with_commands app (command ∷ rest) = with_commands (with_subcommand app comman
 
 -- its commands
 abbrev pub every_command : List App
-every_command = trial_app ∷ explain_app ∷ records_app ∷ query_app ∷ init_app ∷ load_app ∷ migrate_app ∷ upgrade_app ∷ deliver_app ∷ report_app ∷ reports_app ∷ dump_app ∷ status_app ∷ session_app ∷ plan_app ∷ check_app ∷ []
+every_command = trial_app ∷ explain_app ∷ records_app ∷ query_app ∷ init_app ∷ load_app ∷ migrate_app ∷ upgrade_app ∷ deliver_app ∷ report_app ∷ reports_app ∷ queries_app ∷ dump_app ∷ status_app ∷ session_app ∷ plan_app ∷ check_app ∷ []
 
 -- the whole program
 unfoldable pub program_app : App
@@ -168,6 +171,7 @@ pub data CommandLine : Type 0 where
   Report : (file attribute mode from to : List ℕ) → CommandLine
   Query : (file from to : List ℕ) → (columns conditions : List (List ℕ)) → (as_table : Bool) → CommandLine
   Reports : (file list : List ℕ) → CommandLine
+  Queries : (file list : List ℕ) → CommandLine
   Dump : (file table : List ℕ) → CommandLine
   Check : (file : List ℕ) → CommandLine
   Status : (file : List ℕ) → CommandLine
@@ -187,6 +191,7 @@ words_of (Records file dimension from) = records_words file dimension from
 words_of (Report file attribute mode from to) = codes "report" ∷ file ∷ attribute ∷ mode ∷ from ∷ to ∷ []
 words_of (Query file from to columns conditions as_table) = codes "query" ∷ file ∷ from ∷ to ∷ (columns ++ (condition_words conditions ++ table_words as_table))
 words_of (Reports file list) = codes "reports" ∷ file ∷ list ∷ []
+words_of (Queries file list) = codes "queries" ∷ file ∷ list ∷ []
 words_of (Dump file table) = codes "dump" ∷ file ∷ table ∷ []
 words_of (Check file) = codes "check" ∷ file ∷ []
 words_of (Status file) = codes "status" ∷ file ∷ []
@@ -210,6 +215,7 @@ has_operands (Records file dimension from) = is_operand file && (is_operand dime
 has_operands (Report file attribute mode from to) = is_operand file && (is_operand attribute && (is_operand mode && (is_operand from && is_operand to)))
 has_operands (Query file from to columns conditions as_table) = is_operand file && (is_operand from && (is_operand to && (has_some columns && (list_all is_operand columns && list_all is_operand conditions))))
 has_operands (Reports file list) = is_operand file && is_operand list
+has_operands (Queries file list) = is_operand file && is_operand list
 has_operands (Dump file table) = is_operand file && is_operand table
 has_operands (Check file) = is_operand file
 has_operands (Status file) = is_operand file
@@ -284,6 +290,9 @@ named_query rows = option_and_then (λ f. option_and_then (λ d. named_columns f
 abbrev pub named_reports : List Row → Option CommandLine
 named_reports rows = option_and_then (λ f. option_map (λ l. Reports f l) (first_of (codes "LIST") rows)) (first_of (codes "FILE") rows)
 
+abbrev pub named_queries : List Row → Option CommandLine
+named_queries rows = option_and_then (λ f. option_map (λ l. Queries f l) (first_of (codes "LIST") rows)) (first_of (codes "FILE") rows)
+
 abbrev pub named_dump : List Row → Option CommandLine
 named_dump rows = option_and_then (λ f. option_map (λ t. Dump f t) (first_of (codes "TABLE") rows)) (first_of (codes "FILE") rows)
 
@@ -311,6 +320,7 @@ named_by name rows =
     else if bytes_eq name (codes "plan") then named_plan rows
     else if bytes_eq name (codes "report") then named_report rows
     else if bytes_eq name (codes "reports") then named_reports rows
+    else if bytes_eq name (codes "queries") then named_queries rows
     else if bytes_eq name (codes "dump") then named_dump rows
     else if bytes_eq name (codes "check") then named_check rows
     else if bytes_eq name (codes "status") then named_status rows

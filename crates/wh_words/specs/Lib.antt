@@ -4,3 +4,5 @@ pub mod Task
 pub mod Given
 pub mod Request
 pub mod Laws
+pub mod Line
+pub mod QueryList

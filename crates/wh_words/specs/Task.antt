@@ -47,6 +47,7 @@ pub data Task : Type 0 where
   Report : (file : List ℕ) → ReportWords → Task
   Query : (file : List ℕ) → QueryWords → Task
   Reports : (file list : List ℕ) → Task
+  Queries : (file list : List ℕ) → Task
   Dump : (file : List ℕ) → Table → Task
   Check : (file : List ℕ) → Task
   Status : (file : List ℕ) → Task
@@ -119,6 +120,7 @@ task_of (line.Records file dimension from) = records_asked file dimension from
 task_of (line.Report file attribute mode from to) = report_asked file attribute mode from to
 task_of (line.Query file from to columns conditions as_table) = query_asked file from to columns conditions as_table
 task_of (line.Reports file list) = Ok (Reports file list)
+task_of (line.Queries file list) = Ok (Queries file list)
 task_of (line.Dump file table) = dump_asked file table
 task_of (line.Check file) = Ok (Check file)
 task_of (line.Status file) = Ok (Status file)

@@ -49,6 +49,7 @@ Look:
   report   Prints what was sold, by an attribute
   query    Prints what was sold, by one to six attributes, for a slice of the sales
   reports  Prints the reports of a list, over one open of the warehouse
+  queries  Answers the queries of a list, over one open of the warehouse
   records  Prints the records that carry a dimension's members to another file, as a batch
   dump     Prints a table of a warehouse as CSV
   status   Prints how much a warehouse holds
@@ -217,6 +218,19 @@ const SUBCOMMANDS: &[Subcommand<'static>] = &[
             (
                 "LIST",
                 "the reports, a CSV file without a header; each line is ATTRIBUTE,MODE,FROM,TO",
+            ),
+        ],
+        more: More::Nothing,
+    },
+    Subcommand {
+        name: "queries",
+        about: "Answers the queries of a list, over one open of the warehouse",
+        example: "Example: wh queries shop.wh examples/shop/queries.txt",
+        operands: &[
+            FILE,
+            (
+                "LIST",
+                "the queries, a text file; each line is the words of a query without FILE, as for `wh session`",
             ),
         ],
         more: More::Nothing,

@@ -6,7 +6,7 @@ ghost use Rattle.clap.specs.declared.error.ErrorKind.TheVariants.{OutOfMemory};
 ghost use Rattle.wh_rows.specs.Names.{table_of_name};
 ghost use Rattle.wh_words.specs.Given.{words_in};
 ghost use Rattle.wh_words.specs.WrongWord.{wrong_word_line};
-ghost use Rattle.wh_words.specs.CommandLine.{CommandLine, program_app, words_of, has_operands, is_given, named, named_trial, named_explain, named_records, named_init, named_sent, named_load, named_migrate, named_upgrade, named_deliver, named_plan, named_report, named_query, named_reports, named_dump, named_check, named_status, named_session};
+ghost use Rattle.wh_words.specs.CommandLine.{CommandLine, program_app, words_of, has_operands, is_given, named, named_trial, named_explain, named_records, named_init, named_sent, named_load, named_migrate, named_upgrade, named_deliver, named_plan, named_report, named_query, named_reports, named_queries, named_dump, named_check, named_status, named_session};
 ghost use Rattle.wh_words.specs.Request.{optional_text, sent_of, line_of, asked_in, Asks, IsDeclined, IsReadAs};
 ghost use Rattle.wh_words.specs.Task.{trial_asked, load_asked, plan_asked, explain_asked, records_from, records_asked, report_asked, dump_asked, faults_in, asked_by};
 
@@ -91,6 +91,11 @@ pub enum Task<'a> {
     },
     /// The reports that the file `list` lists, of the warehouse in `file`.
     Reports {
+        file: &'a str,
+        list: &'a str,
+    },
+    /// The queries that the file `list` lists, of the warehouse in `file`.
+    Queries {
         file: &'a str,
         list: &'a str,
     },
@@ -214,6 +219,10 @@ enum Operands<'m, 'a> {
     Report(ReportOperands<'a>),
     Query(QueryOperands<'m, 'a>),
     Reports {
+        file: &'a str,
+        list: &'a str,
+    },
+    Queries {
         file: &'a str,
         list: &'a str,
     },
@@ -381,6 +390,15 @@ fn reports_operands<'m, 'a>(inner: &'m ArgMatches<'a>) -> Option<Operands<'m, 'a
     })
 }
 
+fn queries_operands<'m, 'a>(inner: &'m ArgMatches<'a>) -> Option<Operands<'m, 'a>>
+    ensures { option_map line_of result ≡ named_queries (rows_of (found_of inner.now)) }
+{
+    Some(Operands::Queries {
+        file: first_of(inner, "FILE")?,
+        list: first_of(inner, "LIST")?,
+    })
+}
+
 fn dump_operands<'m, 'a>(inner: &'m ArgMatches<'a>) -> Option<Operands<'m, 'a>>
     ensures { option_map line_of result ≡ named_dump (rows_of (found_of inner.now)) }
 {
@@ -432,6 +450,7 @@ fn operands_of<'m, 'a>(matches: &'m ArgMatches<'a>) -> Option<Operands<'m, 'a>>
         "plan" => plan_operands(inner),
         "report" => report_operands(inner),
         "reports" => reports_operands(inner),
+        "queries" => queries_operands(inner),
         "dump" => dump_operands(inner),
         "check" => check_operands(inner),
         "status" => status_operands(inner),
@@ -630,6 +649,7 @@ fn requested<'m, 'a>(alloc: Global, operands: Operands<'m, 'a>) -> Result<Reques
         Operands::Report(words) => report_request(alloc, words),
         Operands::Query(words) => query_request(alloc, &words),
         Operands::Reports { file, list } => Ok(Request::Task(Task::Reports { file, list })),
+        Operands::Queries { file, list } => Ok(Request::Task(Task::Queries { file, list })),
         Operands::Dump { file, table } => dump_request(alloc, file, table),
         Operands::Check { file } => Ok(Request::Task(Task::Check { file })),
         Operands::Status { file } => Ok(Request::Task(Task::Status { file })),

@@ -4,10 +4,14 @@
 mod app;
 mod command;
 pub mod laws;
+mod line;
 mod query;
+mod query_list;
 mod wrong_word;
 
 pub use app::program_app;
 pub use command::{AskedReport, Request, Task, parse};
+pub use line::{LINE_LIMIT, Line, read_line};
 pub use query::AskedQuery;
+pub use query_list::QueryList;
 pub use wrong_word::{MODES, wrong_word_line};

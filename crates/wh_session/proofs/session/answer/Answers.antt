@@ -1,5 +1,5 @@
 use Rattle.std.proofs.Common.{refl, subst, ℕ}
-use Rattle.wh_session.specs.Line.{meaning_of}
+use Rattle.wh_words.specs.Line.{meaning_of}
 use Rattle.wh_session.specs.Session.{IsAnswered}
 use Rattle.wh_session.proofs.LineLemmas.{some_is}
 use Rattle.wh_session.proofs.SessionLemmas.{unread}

@@ -1,6 +1,7 @@
 use Rattle.std.proofs.Common.{◌≡◌, ◌≢◌, sym, subst, arith, List, ℕ, Option, Some}
 use Rattle.std.specs.Prelude.{option_map}
-use Rattle.wh_session.specs.Line.{IsNext, IsNextByte, lines_of}
+use Rattle.wh_words.specs.Line.{lines_of}
+use Rattle.wh_session.specs.Line.{IsNext, IsNextByte}
 use Rattle.wh_session.proofs.LineLemmas.{heard, input_ends, line_ends, read_byte}
 use Rattle.wh_session.proofs.console.ReaderConsoleConsole.next_line.Goals as goal
 

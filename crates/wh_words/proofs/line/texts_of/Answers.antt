@@ -1,5 +1,5 @@
-use Rattle.wh_session.proofs.LineLemmas.{not_all}
-use Rattle.wh_session.proofs.line.texts_of.Goals as goal
+use Rattle.wh_words.proofs.LineLemmas.{not_all}
+use Rattle.wh_words.proofs.line.texts_of.Goals as goal
 
 pub returns-in-Err : goal.returns-in-Err
 returns-in-Err c = not_all c.args.words.items c.loop-word.word-index c.word-item.result (rw c.deref-word-items.ensures.value at c.loop-word-test.true) (rw c.deref-word-items.ensures.value at c.word-item.is)

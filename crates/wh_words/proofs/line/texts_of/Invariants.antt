@@ -1,6 +1,6 @@
 use Rattle.std.proofs.Common.{◌≡◌, ◌++◌, drop, map}
 use Rattle.std.specs.Prelude.{string_bytes}
-use Rattle.wh_session.proofs.line.texts_of.Given as goal
+use Rattle.wh_words.proofs.line.texts_of.Given as goal
 
 -- the texts so far, before what is left, are the whole
 abbrev pub invariant-loop-word : goal.invariant-loop-word

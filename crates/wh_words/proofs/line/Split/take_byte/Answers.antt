@@ -1,8 +1,8 @@
 use Rattle.std.proofs.Common.{◌∙◌, ap, map}
 use Rattle.std.proofs.lemmas.Result.{IfOk-weaker}
-use Rattle.wh_session.specs.Line.{Split, turned}
-use Rattle.wh_session.proofs.LineLemmas.{adds, ends, leaves}
-use Rattle.wh_session.proofs.line.Split.take_byte.Goals as goal
+use Rattle.wh_words.specs.Line.{Split, turned}
+use Rattle.wh_words.proofs.LineLemmas.{adds, ends, leaves}
+use Rattle.wh_words.proofs.line.Split.take_byte.Goals as goal
 
 pub returns-in_default-Leaves : goal.returns-in_default-Leaves
 returns-in_default-Leaves c = rw (← c.self.view_is)

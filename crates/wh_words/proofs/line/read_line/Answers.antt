@@ -1,7 +1,7 @@
 use Rattle.std.proofs.Common.{◌≤◌, ◌∙◌, arith, length, sym}
-use Rattle.wh_session.specs.Line.{line_limit}
-use Rattle.wh_session.proofs.LineLemmas.{remarked, too_long, worded}
-use Rattle.wh_session.proofs.line.read_line.Goals as goal
+use Rattle.wh_words.specs.Line.{line_limit}
+use Rattle.wh_words.proofs.LineLemmas.{remarked, too_long, worded}
+use Rattle.wh_words.proofs.line.read_line.Goals as goal
 
 pub returns-then-line-gt-LINE_LIMIT : goal.returns-then-line-gt-LINE_LIMIT
 returns-then-line-gt-LINE_LIMIT c = rw (too_long c.args.line.now c.if-line-gt-LINE_LIMIT.true) tt

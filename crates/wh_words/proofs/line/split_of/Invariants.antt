@@ -1,7 +1,7 @@
 use Rattle.std.proofs.Common.{◌≡◌, drop}
 use Rattle.std.specs.Prelude.{fold}
-use Rattle.wh_session.specs.Line.{after_byte, none_yet}
-use Rattle.wh_session.proofs.line.split_of.Given as goal
+use Rattle.wh_words.specs.Line.{after_byte, none_yet}
+use Rattle.wh_words.proofs.line.split_of.Given as goal
 
 -- what is read so far, before what is left, is the whole
 abbrev pub invariant-loop-byte : goal.invariant-loop-byte
