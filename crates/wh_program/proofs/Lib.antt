@@ -4,10 +4,11 @@ pub mod RoomLemmas
 pub mod InputLemmas
 pub mod OutputLemmas
 pub mod ReadingLemmas
-pub mod ReportListLemmas
+pub mod ListLemmas
 pub mod WarehouseLemmas
 pub mod ExplainLemmas
 pub mod CheckLemmas
 pub mod DeliveryLemmas
 pub mod ManifestLemmas
+pub mod LongQueryLists
 pub mod Worked

@@ -33,7 +33,7 @@ ascii-alone byte text = of_chars text.0 text.1.1
         let ascii : c < 128 = grind (arith, nat_tests) in
         omega (arith, byte_from_char (byte ∷ []) (encode_utf8_all chars) c (sym e) ascii)
 
-no_text : (field : List ℕ) → is_utf8 (field ++ 255 ∷ []) ≡ false
+pub no_text : (field : List ℕ) → is_utf8 (field ++ 255 ∷ []) ≡ false
 no_text field = elim (is_utf8 (field ++ 255 ∷ [])) as (λ b. is_utf8 (field ++ 255 ∷ []) ≡ b → b ≡ false) [
   | true ↦ λ is.
       let boundary : IsCharBoundary (field ++ 255 ∷ []) (length field) = (omega (arith, length-append field (255 ∷ [])), λ within high. rw (get_or-append_seam field 255 [] 0) (omega arith)) in

@@ -23,10 +23,10 @@ use Rattle.wh_rows.specs.declared.rows.ChangeRow.{ChangeRow}
 use Rattle.wh_rows.specs.declared.rows.ProfileRow.{ProfileRow}
 use Rattle.wh_plan.specs.Edits.{Edits, no_edits}
 use Rattle.wh_plan.specs.declared.edits.FactEdit.TheVariants.{Row, Rekey}
-use Rattle.wh_program.specs.Answer.{done, refused, failed}
+use Rattle.wh_program.specs.Answer.{Printed, done, refused, failed}
 use Rattle.wh_program.specs.Delivery.{delivery_answer, manifest_line}
-use Rattle.wh_program.specs.ReportLists.{listed_answer, answers_until, whole_answer}
-use Rattle.wh_batch.specs.declared.report_list.ListedReport.{ListedReport}
+use Rattle.wh_program.specs.Lists.{answers_until, whole_answer}
+use Rattle.wh_program.specs.ReportLists.{listed_answer}
 use Rattle.wh_history.specs.Accepted.{Accepted as AcceptedCommand}
 use Rattle.wh_program.specs.PlanText.{plan_text}
 use Rattle.wh_program.specs.Reply.{refused_line}
@@ -188,7 +188,7 @@ line_of_a_bad_manifest : manifest_line (record { number = 12 }) ≡ codes "refus
 unfolding digits
 line_of_a_bad_manifest = refl
 
--- ---- lists of reports
+-- ---- lists of reports and queries
 
 -- an empty line between two, and the status of what was refused
 text_of_reports : whole_answer (done (codes "report a\n") ∷ refused (codes "refused: G1 no attribute\n") ∷ done (codes "report b\n") ∷ []) ≡ refused (codes "report a\n\nrefused: G1 no attribute\n\nreport b\n")
@@ -204,9 +204,9 @@ text_of_no_reports : whole_answer [] ≡ done []
 text_of_no_reports = refl
 
 -- a mode that is none is refused in its place, whatever the commands
-no_such_mode : (commands : List AcceptedCommand) → listed_answer commands (record { attribute = codes "date.month"; mode = codes "once"; from = []; to = [] }) ≡ refused (codes "error: MODE is 'once', and none of was, is and prior\n")
+no_such_mode : (commands : List AcceptedCommand) → listed_answer (record { attribute = codes "date.month"; mode = codes "once"; from = []; to = [] }) commands ≡ refused (codes "error: MODE is 'once', and none of was, is and prior\n")
 no_such_mode commands = refl
 
--- a fault stops a list in the place of the report behind the first one
-stopped_in_its_place : (commands : List AcceptedCommand) (listed : ListedReport) → answers_until commands (listed ∷ listed ∷ listed ∷ []) 1 (Err Memory) ≡ listed_answer commands listed ∷ failed (codes "failed: E8 memory\n") ∷ []
-stopped_in_its_place commands listed = refl
+-- a fault stops a list in the place of the question behind the first one
+stopped_in_its_place : (commands : List AcceptedCommand) (first second : List AcceptedCommand → Printed) → answers_until commands (first ∷ second ∷ second ∷ []) 1 (Err Memory) ≡ first commands ∷ failed (codes "failed: E8 memory\n") ∷ []
+stopped_in_its_place commands first second = refl

@@ -1,4 +1,4 @@
--- Nothing is lost where an input is read to its limit and a byte, and a longer manifest, or list of reports, is refused.
+-- Nothing is lost where an input is read to its limit and a byte, and a longer manifest, or list of reports or queries, is refused.
 use Rattle.std.specs.Prelude.{◌≡◌, ◌⊎◌, ◌<◌, ℕ, suc, List, length, take, true, None, Result, Err}
 use Rattle.std.specs.List.{list_all}
 use Rattle.wh_policy.specs.Policy.{read_policy}

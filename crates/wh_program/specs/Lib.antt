@@ -10,7 +10,9 @@ pub mod Explained
 pub mod Room
 pub mod Readings
 pub mod Delivery
+pub mod Lists
 pub mod ReportLists
+pub mod QueryLists
 pub mod ReportsRead
 pub mod Tasks
 pub mod Laws

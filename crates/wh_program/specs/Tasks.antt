@@ -8,8 +8,9 @@ use Rattle.wh_program.specs.Explained.{AnswersExplanation, LacksInputAsked}
 use Rattle.wh_program.specs.Inputs.{Files, Refusals, up_to, batch_limit, policy_limit, as_input}
 use Rattle.wh_program.specs.Readings.{AnswersReport, AnswersQuery, AnswersRecords, AnswersDump}
 use Rattle.wh_program.specs.ReportLists.{AnswersReports, LacksList}
+use Rattle.wh_program.specs.QueryLists.{AnswersQueries, LacksQueries}
 use Rattle.wh_program.specs.Standing.{DatabaseContent, IsOfCommands, Standing, Rests}
-use Rattle.wh_words.specs.Task.{Task, Trial, Init, Load, Migrate, Upgrade, Deliver, Plan, Explain, Records, Query, Report, Reports, Dump, Check, Status, Session}
+use Rattle.wh_words.specs.Task.{Task, Trial, Init, Load, Migrate, Upgrade, Deliver, Plan, Explain, Records, Query, Report, Reports, Queries, Dump, Check, Status, Session}
 use Rattle.wh_program.specs.Warehouse.{Told, Makes, Sends, Plans, AnswersWith, AnswersUpgrade, AnswersStatus, IsJudgedFirst, PrintsShut, IsNoFileOr, LacksFile, LacksPolicy}
 
 -- what a host stores under its names
@@ -35,6 +36,7 @@ warehouse_of (Records file dim from) = Some file
 warehouse_of (Query file words) = Some file
 warehouse_of (Report file words) = Some file
 warehouse_of (Reports file list) = Some file
+warehouse_of (Queries file list) = Some file
 warehouse_of (Dump file table) = Some file
 warehouse_of (Check file) = Some file
 warehouse_of (Status file) = Some file
@@ -69,6 +71,7 @@ Runs holds refuses before after same prints goes_out (Records file dim from) = R
 Runs holds refuses before after same prints goes_out (Query file words) = RunsOver before file (λ content told. AnswersQuery refuses (after file) content file words told) prints
 Runs holds refuses before after same prints goes_out (Report file words) = RunsOver before file (λ content told. AnswersReport refuses (after file) content file words told) prints
 Runs holds refuses before after same prints goes_out (Reports file list) = RunsOver before file (λ content told. AnswersReports holds refuses (after file) content file list told) prints
+Runs holds refuses before after same prints goes_out (Queries file list) = RunsOver before file (λ content told. AnswersQueries holds refuses (after file) content file list told) prints
 Runs holds refuses before after same prints goes_out (Dump file table) = RunsOverCommands before file (λ content told. AnswersDump refuses (after file) content file table told) prints
 Runs holds refuses before after same prints goes_out (Check file) = RunsOver before file (λ content told. AnswersCheck refuses (after file) content file told) prints
 Runs holds refuses before after same prints goes_out (Status file) = RunsOver before file (λ content told. AnswersStatus refuses (after file) content file told) prints
@@ -83,6 +86,7 @@ IsToldBefore holds (Deliver file manifest) a = LacksManifest holds manifest a
 IsToldBefore holds (Plan file kind id path) a = LacksFile (as_input kind holds) path a
 IsToldBefore holds (Explain file kind path) a = LacksInputAsked holds kind path a
 IsToldBefore holds (Reports file list) a = LacksList holds list a
+IsToldBefore holds (Queries file list) a = LacksQueries holds list a
 IsToldBefore holds (Session file) a = a ≡ refused session_line
 IsToldBefore holds task a = ⊥
 

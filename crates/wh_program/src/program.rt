@@ -19,6 +19,7 @@ use crate::output::{print, print_answer, print_usage};
 use crate::visits::delivery::deliver;
 use crate::visits::dump::print_dump;
 use crate::visits::explain::explain;
+use crate::visits::queries::queries;
 use crate::visits::query::visit_query;
 use crate::visits::records::records;
 use crate::visits::report::visit_report;
@@ -74,6 +75,7 @@ fn run_task<H: Host, W: Write>(alloc: Global, task: Task, host: &mut H, out: &mu
         Task::Query { file, asked } => print_answer(out, visit_query(alloc, file, asked, host)),
         Task::Report { file, asked } => print_answer(out, visit_report(alloc, file, asked, host)),
         Task::Reports { file, list } => print_answer(out, reports(alloc, file, list, host)),
+        Task::Queries { file, list } => print_answer(out, queries(alloc, file, list, host)),
         Task::Dump { file, table } => print_dump(alloc, file, table, host, out),
         Task::Check { file } => print_answer(out, check(alloc, file, host)),
         Task::Status { file } => print_answer(out, status(alloc, file, host)),

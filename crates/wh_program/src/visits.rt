@@ -3,7 +3,9 @@
 pub(crate) mod delivery;
 pub(crate) mod dump;
 pub(crate) mod explain;
+pub(crate) mod lists;
 pub(crate) mod opened;
+pub(crate) mod queries;
 pub(crate) mod query;
 pub(crate) mod records;
 pub(crate) mod report;

@@ -3,7 +3,7 @@
 ghost use Rattle.std.specs.Prelude.{◌≡◌, ◌==◌, IfOk};
 ghost use Rattle.std.specs.List.{list_any};
 ghost use Rattle.wh_program.specs.Answer.{status_code};
-ghost use Rattle.wh_program.specs.ReportLists.{is_among, status_of, answers_text, whole_answer};
+ghost use Rattle.wh_program.specs.Lists.{is_among, status_of, answers_text, whole_answer};
 
 use crate::lines::answer::{Answer, Status};
 use std::alloc::{AllocError, Global};

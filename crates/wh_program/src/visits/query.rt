@@ -29,7 +29,7 @@ fn form_of(as_table: bool) -> Form
 }
 
 /// The answer to the words of a query, over a warehouse that is open.
-fn query_answer<S: Alter>(
+pub fn query_answer<S: Alter>(
     alloc: Global,
     engine: &mut Engine<S>,
     asked: &AskedQuery,

@@ -33,6 +33,9 @@ returns-in-Explain-clause-shut g c = rw c.in-Explain.is (λ shut. let is = c.exp
 pub returns-in-Reports-clause-shut : goal.returns-in-Reports-clause-shut
 returns-in-Reports-clause-shut g c = rw c.in-Reports.is (λ shut. let is = c.reports.ensures.shut shut in (is.0, (c.reports.result, is.1, c.print_answer-in-Reports.ensures)))
 
+pub returns-in-Queries-clause-shut : goal.returns-in-Queries-clause-shut
+returns-in-Queries-clause-shut g c = rw c.in-Queries.is (λ shut. let is = c.queries.ensures.shut shut in (is.0, (c.queries.result, is.1, c.print_answer-in-Queries.ensures)))
+
 pub returns-in-Upgrade-clause-shut : goal.returns-in-Upgrade-clause-shut
 returns-in-Upgrade-clause-shut g c = rw c.in-Upgrade.is (λ shut. let is = c.upgrade.ensures.shut shut in (is.0, (c.upgrade.result, IfOk-weaker c.upgrade.result _ _ (λ a closed. inl closed) is.1, c.print_answer-in-Upgrade.ensures)))
 
