@@ -138,7 +138,180 @@ run query q 2024-01-01 2024-12-31 store.city
 = status 0
 "#;
 
-/// After those.
+/// Lists of queries, after those.
+pub const LISTED: &str = r#"
+# The queries, with an empty line between two; each is what the words of a query print. The line of one that is refused stands in its place, and those behind it are answered too. Empty lines and
+# remarks are passed over.
+file listed.txt
+> # brands by month
+> 2024-01-01 2024-12-31 product.brand date.month
+>
+> 2024-01-01 2024-12-31 product.color
+> 2024-01-15 2024-01-15 product.description --where "product.description=Tea, green"
+run queries q listed.txt
+= product.brand:was,date.month,lines,quantity,amount,cost,margin
+= Acme,2024-01,1,2,5.00,3.20,1.80
+= Bolt,2024-02,1,1,2.50,1.60,0.90
+= Leaf,2024-01,1,1,4.50,2.75,1.75
+= Leaf,2024-02,1,-1,-4.50,-2.75,-1.75
+=
+= refused: G1 no attribute
+=
+= product.description:was,lines,quantity,amount,cost,margin
+= "Tea, green",1,1,4.50,2.75,1.75
+= status 2
+run query q 2024-01-01 2024-12-31 product.brand date.month
+= product.brand:was,date.month,lines,quantity,amount,cost,margin
+= Acme,2024-01,1,2,5.00,3.20,1.80
+= Bolt,2024-02,1,1,2.50,1.60,0.90
+= Leaf,2024-01,1,1,4.50,2.75,1.75
+= Leaf,2024-02,1,-1,-4.50,-2.75,-1.75
+= status 0
+
+# Other refusals, options in front, more blanks, lines that end as on other systems, a last one without an end, and double quotes within a word.
+bytes blanks.txt 2024-01-01 2024-12-31 product.brand:is\r\n\r\n \x092024-12-31  2024-01-01 product.brand\r\n--where store.city=Bern 2024-01-01 2024-12-31 product.brand\r\n2024-01-01 2024-12-31 product.brand "--where" "product.description=say ""tea"""
+run queries q blanks.txt
+= refused: G2 no reading, type 2 is
+=
+= refused: G3 bad range
+=
+= product.brand:was,lines,quantity,amount,cost,margin
+= Acme,1,2,5.00,3.20,1.80
+= Bolt,1,1,2.50,1.60,0.90
+= Leaf,2,0,0.00,0.00,0.00
+=
+= product.brand:was,lines,quantity,amount,cost,margin
+= status 2
+
+# One alone has no empty line, and no query prints nothing.
+file one.txt
+> 2024-01-01 2024-12-31 date.month
+run queries q one.txt
+= date.month,lines,quantity,amount,cost,margin
+= 2024-01,2,3,9.50,5.95,3.55
+= 2024-02,2,0,-2.00,-1.15,-0.85
+= status 0
+file none.txt
+run queries q none.txt
+= status 0
+file remarks.txt
+> # 2024-01-01 2024-12-31 date.month
+>
+run queries q remarks.txt
+= status 0
+
+# A bad list is refused whole, before the warehouse is opened. All its lines are counted.
+file bad.txt
+> # the second line is empty
+>
+> 2024-01-01 2024-12-31 product.brand
+> 2024-01-01 2024-12-31 product.brand:then
+> 2024-01-01
+run queries q bad.txt
+= refused: M1 bad manifest, record 4
+= status 2
+run queries nowhere bad.txt
+= refused: M1 bad manifest, record 4
+= status 2
+run queries p1.csv bad.txt
+= refused: M1 bad manifest, record 4
+= status 2
+file few.txt
+> 2024-01-01 2024-12-31
+run queries q few.txt
+= refused: M1 bad manifest, record 1
+= status 2
+file where.txt
+> 2024-01-01 2024-12-31 product.brand --where store.city
+run queries q where.txt
+= refused: M1 bad manifest, record 1
+= status 2
+file help.txt
+> 2024-01-01 2024-12-31 product.brand --help
+run queries q help.txt
+= refused: M1 bad manifest, record 1
+= status 2
+file seven.txt
+> 2024-01-01 2024-12-31 a b c d e f
+> 2024-01-01 2024-12-31 a b c d e f g
+run queries q seven.txt
+= refused: M1 bad manifest, record 2
+= status 2
+file open.txt
+> 2024-01-01 2024-12-31 product.brand --where "store.city=Bern
+run queries q open.txt
+= refused: M1 bad manifest, record 1
+= status 2
+file within.txt
+> 2024-01-01 2024-12-31 product.brand --where store.city="Bern"
+run queries q within.txt
+= refused: M1 bad manifest, record 1
+= status 2
+bytes text.txt 2024-01-01 2024-12-31 date.month\n2024-01-01 2024-12-31 \xFF\n
+run queries q text.txt
+= refused: M1 bad manifest, record 2
+= status 2
+bytes remark.txt # \xFF\n
+run queries q remark.txt
+= refused: M1 bad manifest, record 1
+= status 2
+long line.txt 65537
+run queries q line.txt
+= refused: M1 bad manifest, record 1
+= status 2
+run queries q gone.txt
+= failed: F1 file, gone.txt
+= status 3
+
+# No warehouse, with queries and without; none is made.
+run queries nowhere one.txt
+= failed: N1 not a warehouse
+= status 3
+run queries nowhere none.txt
+= failed: N1 not a warehouse
+= status 3
+stands nowhere
+= no
+
+# Within a session.
+session q
+> queries one.txt
+> queries bad.txt
+= date.month,lines,quantity,amount,cost,margin
+= 2024-01,2,3,9.50,5.95,3.55
+= 2024-02,2,0,-2.00,-1.15,-0.85
+= status 0
+= refused: M1 bad manifest, record 4
+= status 2
+= status 2
+
+# What stops the list is told in the place of the query that met it, and nothing behind it.
+sql q UPDATE product SET from_day = 20240332
+file stopped.txt
+> 2024-01-01 2024-12-31 product.color
+> 2024-01-01 2024-12-31 date.month
+> 2024-01-01 2024-12-31 product.brand
+> 2024-01-01 2024-12-31 date.month
+run queries q stopped.txt
+= refused: G1 no attribute
+=
+= date.month,lines,quantity,amount,cost,margin
+= 2024-01,2,3,9.50,5.95,3.55
+= 2024-02,2,0,-2.00,-1.15,-0.85
+=
+= failed: E7 damaged, product
+= status 3
+
+# Words that are too few or too many.
+ended queries q
+= a text
+= status 4
+ended queries q one.txt none.txt
+= a text
+= status 4
+"#;
+
+/// After `QUERIES`.
 pub const RECORDS: &str = r#"
 run records q store
 = id,day,city
