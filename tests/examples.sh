@@ -70,7 +70,7 @@ fi
 rm -f "$folder/shop.wh" "$folder/shop.wh-wal"
 cp -R examples "$folder"
 named=$(realpath "$program")
-for word in init load explain plan deliver report reports dump status check migrate upgrade trial; do
+for word in init load explain plan deliver report reports query queries dump status check migrate upgrade trial; do
     words=$("$named" help "$word" | sed -n 's/^Example: wh //p')
     answered=0
     # Each of the words is one.
@@ -85,7 +85,7 @@ for word in init load explain plan deliver report reports dump status check migr
 done
 rm -rf "$folder"
 # Each word stands in the help with what its own help says of it.
-for word in init load migrate upgrade deliver report reports dump status explain plan trial check; do
+for word in init load migrate upgrade deliver report query reports queries dump status explain plan trial check; do
     said=$("$program" help "$word" | head -n 1)
     if "$program" --help | grep -qE "^  $word +$said\$"; then
         passed=$((passed + 1))
