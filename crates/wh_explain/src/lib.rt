@@ -21,6 +21,7 @@ mod records;
 mod refused;
 mod row;
 mod shown;
+mod views;
 mod wanted;
 
 pub use explanation::{SentCommand, add_columns, add_kind, add_refusal, add_warnings};
@@ -28,3 +29,4 @@ pub use header::push_names;
 pub use left_out::{LeftOut, left_out};
 pub use line::{TracedLines, refused_lines};
 pub use shown::push_number;
+pub use views::views_text;
