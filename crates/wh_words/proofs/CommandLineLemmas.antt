@@ -3,10 +3,10 @@ use Rattle.std.proofs.Common.{◌≡◌, ◌∙◌, sym, [], ◌∷◌, List, re
 use Rattle.std.specs.List.{list_all}
 use Rattle.clap.specs.Words.{Shape, Text}
 use Rattle.clap.specs.Walk.{Walk}
-use Rattle.wh_words.specs.CommandLine.{CommandLine, Trial, Init, Load, Migrate, Upgrade, Deliver, Plan, Explain, Records, Query, Report, Reports, Queries, Dump, Check, Status, Session, trial_app, words_of, is_operand, has_operands}
+use Rattle.wh_words.specs.CommandLine.{CommandLine, Trial, Init, Load, Migrate, Upgrade, Deliver, Plan, Explain, Records, Query, Report, Reports, Queries, Dump, Views, Check, Status, Session, trial_app, words_of, is_operand, has_operands}
 use Rattle.wh_words.proofs.CommandWords.{IsRead, end_of, operands_read, read_by}
 use Rattle.wh_words.proofs.Operands.{are_in_list, are_operands}
-use Rattle.wh_words.proofs.Program.{commands_on_literals, leaf, trial_met, explain_met, records_met, init_met, load_met, migrate_met, upgrade_met, deliver_met, report_met, reports_met, queries_met, dump_met, status_met, session_met, plan_met, check_met}
+use Rattle.wh_words.proofs.Program.{commands_on_literals, leaf, trial_met, explain_met, records_met, init_met, load_met, migrate_met, upgrade_met, deliver_met, report_met, reports_met, queries_met, dump_met, views_met, status_met, session_met, plan_met, check_met}
 use Rattle.wh_words.proofs.QueryCommand.{query_is_read}
 use Rattle.wh_words.proofs.Reading.{Steps, flagged, goes_nowhere, goes_on, operands_go, start, takes, took}
 use Rattle.wh_history.proofs.Basics.{both_true}
@@ -62,6 +62,7 @@ reads (Query f d t columns conditions as_table) is = query_is_read f d t columns
 reads (Reports f l) is = operands_read _ _ reports_met (f ∷ l ∷ []) _ (listed f (l ∷ []) is) refl
 reads (Queries f l) is = operands_read _ _ queries_met (f ∷ l ∷ []) _ (listed f (l ∷ []) is) refl
 reads (Dump f t) is = operands_read _ _ dump_met (f ∷ t ∷ []) _ (listed f (t ∷ []) is) refl
+reads (Views f) is = operands_read _ _ views_met (f ∷ []) _ (listed f [] is) refl
 reads (Check f) is = operands_read _ _ check_met (f ∷ []) _ (listed f [] is) refl
 reads (Status f) is = operands_read _ _ status_met (f ∷ []) _ (listed f [] is) refl
 reads (Session f) is = operands_read _ _ session_met (f ∷ []) _ (listed f [] is) refl

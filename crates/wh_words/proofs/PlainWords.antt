@@ -8,12 +8,12 @@ use Rattle.clap.specs.Faults.{step_fault}
 use Rattle.clap.specs.Simple.{label_of, names_of}
 use Rattle.clap.specs.Walk.{Names, answers_to, nothing_held, value}
 use Rattle.clap.specs.declared.error.kind.ErrorKind.TheVariants.{DisplayHelp, InvalidSubcommand, MissingRequiredArgument, MissingSubcommand, UnknownArgument}
-use Rattle.wh_words.specs.CommandLine.{CommandLine, Trial, Init, Load, Migrate, Upgrade, Deliver, Plan, Explain, Records, Query, Report, Reports, Queries, Dump, Check, Status, Session, program_app, is_operand, Says}
+use Rattle.wh_words.specs.CommandLine.{CommandLine, Trial, Init, Load, Migrate, Upgrade, Deliver, Plan, Explain, Records, Query, Report, Reports, Queries, Dump, Views, Check, Status, Session, program_app, is_operand, Says}
 use Rattle.wh_words.specs.Task.{faults_in, asked_by}
 use Rattle.wh_words.proofs.CommandFaults.{not_asked, no_words}
 use Rattle.wh_words.proofs.CommandWords.{end_of, goes_by}
 use Rattle.wh_words.proofs.Operands.{are_in_list, are_operands, plain}
-use Rattle.wh_words.proofs.Program.{bare, commands, commands_on_literals, top_faultless, trial_met, explain_met, records_met, query_met, init_met, load_met, migrate_met, upgrade_met, deliver_met, report_met, reports_met, queries_met, dump_met, status_met, session_met, plan_met, check_met}
+use Rattle.wh_words.proofs.Program.{bare, commands, commands_on_literals, top_faultless, trial_met, explain_met, records_met, query_met, init_met, load_met, migrate_met, upgrade_met, deliver_met, report_met, reports_met, queries_met, dump_met, views_met, status_met, session_met, plan_met, check_met}
 use Rattle.wh_words.proofs.Reading.{Meets, end_fault, fault_is, first_faulty, flows, level_is, level_strays, operands_fault, start, unknown}
 use Rattle.wh_history.proofs.Basics.{both_true}
 use Rattle.wh_rows.proofs.ColumnLemmas.{both}
@@ -170,6 +170,12 @@ check_fits [] is = lacks _ _ check_met [] is refl
 check_fits (f ∷ []) is = inl (Check f, record { words_are = refl; operands = each f [] is })
 check_fits (f ∷ x ∷ more) is = strays _ _ check_met (f ∷ x ∷ []) more is refl
 
+views_fits : (rest : List Text) → list_all is_operand rest ≡ true → Fits (codes "views" ∷ rest)
+unfolding commands_on_literals
+views_fits [] is = lacks _ _ views_met [] is refl
+views_fits (f ∷ []) is = inl (Views f, record { words_are = refl; operands = each f [] is })
+views_fits (f ∷ x ∷ more) is = strays _ _ views_met (f ∷ x ∷ []) more is refl
+
 status_fits : (rest : List Text) → list_all is_operand rest ≡ true → Fits (codes "status" ∷ rest)
 unfolding commands_on_literals
 status_fits [] is = lacks _ _ status_met [] is refl
@@ -209,6 +215,7 @@ every_name =
     ∷ record { name = codes "reports"; fits_behind = reports_fits }
     ∷ record { name = codes "queries"; fits_behind = queries_fits }
     ∷ record { name = codes "dump"; fits_behind = dump_fits }
+    ∷ record { name = codes "views"; fits_behind = views_fits }
     ∷ record { name = codes "status"; fits_behind = status_fits }
     ∷ record { name = codes "session"; fits_behind = session_fits }
     ∷ record { name = codes "plan"; fits_behind = plan_fits }

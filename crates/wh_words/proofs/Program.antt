@@ -5,7 +5,7 @@ use Rattle.clap.specs.Words.{App, Shape, Text, built, is_simple_and_free}
 use Rattle.clap.specs.Simple.{built_leaf, help_shape, inherited, label_of, marked_built, with_leaf_noted}
 use Rattle.clap.specs.Walk.{answers_to}
 use Rattle.clap.proofs.OnLiterals.{clap_on_literals}
-use Rattle.wh_words.specs.CommandLine.{program_app, top_app, trial_app, explain_app, records_app, query_app, init_app, load_app, migrate_app, upgrade_app, deliver_app, report_app, reports_app, queries_app, dump_app, status_app, session_app, plan_app, check_app}
+use Rattle.wh_words.specs.CommandLine.{program_app, top_app, trial_app, explain_app, records_app, query_app, init_app, load_app, migrate_app, upgrade_app, deliver_app, report_app, reports_app, queries_app, dump_app, views_app, status_app, session_app, plan_app, check_app}
 use Rattle.wh_words.proofs.Reading.{Meets, top_fault}
 
 -- what a proof unfolds to compute with a command and words that are written out
@@ -23,7 +23,7 @@ leaf command = built_leaf (inherited above command.top)
 
 pub commands : (built program_app).subs
     ≡ leaf trial_app ∷ leaf explain_app ∷ leaf records_app ∷ leaf query_app ∷ leaf init_app ∷ leaf load_app ∷ leaf migrate_app ∷ leaf upgrade_app ∷ leaf deliver_app ∷ leaf report_app ∷ leaf reports_app
-    ∷ leaf queries_app ∷ leaf dump_app ∷ leaf status_app ∷ leaf session_app ∷ leaf plan_app ∷ leaf check_app ∷ built_leaf help_shape ∷ []
+    ∷ leaf queries_app ∷ leaf dump_app ∷ leaf views_app ∷ leaf status_app ∷ leaf session_app ∷ leaf plan_app ∷ leaf check_app ∷ built_leaf help_shape ∷ []
 unfolding program_app commands_on_literals
 commands = refl
 
@@ -98,6 +98,10 @@ queries_met = record { finds = ap (first_called (codes "queries")) commands; cal
 pub dump_met : Meets program_app (codes "dump") (leaf dump_app)
 unfolding commands_on_literals
 dump_met = record { finds = ap (first_called (codes "dump")) commands; called = refl; no_help = refl }
+
+pub views_met : Meets program_app (codes "views") (leaf views_app)
+unfolding commands_on_literals
+views_met = record { finds = ap (first_called (codes "views")) commands; called = refl; no_help = refl }
 
 pub status_met : Meets program_app (codes "status") (leaf status_app)
 unfolding commands_on_literals

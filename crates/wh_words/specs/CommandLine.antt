@@ -97,6 +97,9 @@ queries_app = command_app (codes "queries") (codes "FILE" ∷ codes "LIST" ∷ [
 abbrev pub dump_app : App
 dump_app = command_app (codes "dump") (codes "FILE" ∷ codes "TABLE" ∷ [])
 
+abbrev pub views_app : App
+views_app = command_app (codes "views") (codes "FILE" ∷ [])
+
 abbrev pub check_app : App
 check_app = command_app (codes "check") (codes "FILE" ∷ [])
 
@@ -117,7 +120,7 @@ with_commands app (command ∷ rest) = with_commands (with_subcommand app comman
 
 -- its commands
 abbrev pub every_command : List App
-every_command = trial_app ∷ explain_app ∷ records_app ∷ query_app ∷ init_app ∷ load_app ∷ migrate_app ∷ upgrade_app ∷ deliver_app ∷ report_app ∷ reports_app ∷ queries_app ∷ dump_app ∷ status_app ∷ session_app ∷ plan_app ∷ check_app ∷ []
+every_command = trial_app ∷ explain_app ∷ records_app ∷ query_app ∷ init_app ∷ load_app ∷ migrate_app ∷ upgrade_app ∷ deliver_app ∷ report_app ∷ reports_app ∷ queries_app ∷ dump_app ∷ views_app ∷ status_app ∷ session_app ∷ plan_app ∷ check_app ∷ []
 
 -- the whole program
 unfoldable pub program_app : App
@@ -173,6 +176,7 @@ pub data CommandLine : Type 0 where
   Reports : (file list : List ℕ) → CommandLine
   Queries : (file list : List ℕ) → CommandLine
   Dump : (file table : List ℕ) → CommandLine
+  Views : (file : List ℕ) → CommandLine
   Check : (file : List ℕ) → CommandLine
   Status : (file : List ℕ) → CommandLine
   Session : (file : List ℕ) → CommandLine
@@ -193,6 +197,7 @@ words_of (Query file from to columns conditions as_table) = codes "query" ∷ fi
 words_of (Reports file list) = codes "reports" ∷ file ∷ list ∷ []
 words_of (Queries file list) = codes "queries" ∷ file ∷ list ∷ []
 words_of (Dump file table) = codes "dump" ∷ file ∷ table ∷ []
+words_of (Views file) = codes "views" ∷ file ∷ []
 words_of (Check file) = codes "check" ∷ file ∷ []
 words_of (Status file) = codes "status" ∷ file ∷ []
 words_of (Session file) = codes "session" ∷ file ∷ []
@@ -217,6 +222,7 @@ has_operands (Query file from to columns conditions as_table) = is_operand file 
 has_operands (Reports file list) = is_operand file && is_operand list
 has_operands (Queries file list) = is_operand file && is_operand list
 has_operands (Dump file table) = is_operand file && is_operand table
+has_operands (Views file) = is_operand file
 has_operands (Check file) = is_operand file
 has_operands (Status file) = is_operand file
 has_operands (Session file) = is_operand file
@@ -296,6 +302,9 @@ named_queries rows = option_and_then (λ f. option_map (λ l. Queries f l) (firs
 abbrev pub named_dump : List Row → Option CommandLine
 named_dump rows = option_and_then (λ f. option_map (λ t. Dump f t) (first_of (codes "TABLE") rows)) (first_of (codes "FILE") rows)
 
+abbrev pub named_views : List Row → Option CommandLine
+named_views rows = option_map (λ f. Views f) (first_of (codes "FILE") rows)
+
 abbrev pub named_check : List Row → Option CommandLine
 named_check rows = option_map (λ f. Check f) (first_of (codes "FILE") rows)
 
@@ -322,6 +331,7 @@ named_by name rows =
     else if bytes_eq name (codes "reports") then named_reports rows
     else if bytes_eq name (codes "queries") then named_queries rows
     else if bytes_eq name (codes "dump") then named_dump rows
+    else if bytes_eq name (codes "views") then named_views rows
     else if bytes_eq name (codes "check") then named_check rows
     else if bytes_eq name (codes "status") then named_status rows
     else if bytes_eq name (codes "session") then named_session rows

@@ -49,6 +49,7 @@ pub data Task : Type 0 where
   Reports : (file list : List ℕ) → Task
   Queries : (file list : List ℕ) → Task
   Dump : (file : List ℕ) → Table → Task
+  Views : (file : List ℕ) → Task
   Check : (file : List ℕ) → Task
   Status : (file : List ℕ) → Task
   Session : (file : List ℕ) → Task
@@ -122,6 +123,7 @@ task_of (line.Query file from to columns conditions as_table) = query_asked file
 task_of (line.Reports file list) = Ok (Reports file list)
 task_of (line.Queries file list) = Ok (Queries file list)
 task_of (line.Dump file table) = dump_asked file table
+task_of (line.Views file) = Ok (Views file)
 task_of (line.Check file) = Ok (Check file)
 task_of (line.Status file) = Ok (Status file)
 task_of (line.Session file) = Ok (Session file)

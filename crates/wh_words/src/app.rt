@@ -52,6 +52,7 @@ Look:
   queries  Answers the queries of a list, over one open of the warehouse
   records  Prints the records that carry a dimension's members to another file, as a batch
   dump     Prints a table of a warehouse as CSV
+  views    Prints the SQL of views that have the names of the attributes
   status   Prints how much a warehouse holds
   session  Answers commands from standard input over one open of the file
 
@@ -246,6 +247,13 @@ const SUBCOMMANDS: &[Subcommand<'static>] = &[
                 "meta, command, member, change, product, store, customer, profile, calendar, fact, fact2 or void",
             ),
         ],
+        more: More::Nothing,
+    },
+    Subcommand {
+        name: "views",
+        about: "Prints the SQL of views that have the names of the attributes",
+        example: "Example: sqlite3 -readonly shop.wh \"$(wh views shop.wh) SELECT * FROM sales_as_is\"",
+        operands: &[FILE],
         more: More::Nothing,
     },
     Subcommand {

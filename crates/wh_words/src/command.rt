@@ -6,7 +6,7 @@ ghost use Rattle.clap.specs.declared.error.ErrorKind.TheVariants.{OutOfMemory};
 ghost use Rattle.wh_rows.specs.Names.{table_of_name};
 ghost use Rattle.wh_words.specs.Given.{words_in};
 ghost use Rattle.wh_words.specs.WrongWord.{wrong_word_line};
-ghost use Rattle.wh_words.specs.CommandLine.{CommandLine, program_app, words_of, has_operands, is_given, named, named_trial, named_explain, named_records, named_init, named_sent, named_load, named_migrate, named_upgrade, named_deliver, named_plan, named_report, named_query, named_reports, named_queries, named_dump, named_check, named_status, named_session};
+ghost use Rattle.wh_words.specs.CommandLine.{CommandLine, program_app, words_of, has_operands, is_given, named, named_trial, named_explain, named_records, named_init, named_sent, named_load, named_migrate, named_upgrade, named_deliver, named_plan, named_report, named_query, named_reports, named_queries, named_dump, named_views, named_check, named_status, named_session};
 ghost use Rattle.wh_words.specs.Request.{optional_text, sent_of, line_of, asked_in, Asks, IsDeclined, IsReadAs};
 ghost use Rattle.wh_words.specs.Task.{trial_asked, load_asked, plan_asked, explain_asked, records_from, records_asked, report_asked, dump_asked, faults_in, asked_by};
 
@@ -103,6 +103,10 @@ pub enum Task<'a> {
     Dump {
         file: &'a str,
         table: Table,
+    },
+    /// The SQL of views over the warehouse in `file`.
+    Views {
+        file: &'a str,
     },
     /// Whether the warehouse in `file` is what its commands define.
     Check {
@@ -229,6 +233,9 @@ enum Operands<'m, 'a> {
     Dump {
         file: &'a str,
         table: &'a str,
+    },
+    Views {
+        file: &'a str,
     },
     Check {
         file: &'a str,
@@ -408,6 +415,14 @@ fn dump_operands<'m, 'a>(inner: &'m ArgMatches<'a>) -> Option<Operands<'m, 'a>>
     })
 }
 
+fn views_operands<'m, 'a>(inner: &'m ArgMatches<'a>) -> Option<Operands<'m, 'a>>
+    ensures { option_map line_of result ≡ named_views (rows_of (found_of inner.now)) }
+{
+    Some(Operands::Views {
+        file: first_of(inner, "FILE")?,
+    })
+}
+
 fn check_operands<'m, 'a>(inner: &'m ArgMatches<'a>) -> Option<Operands<'m, 'a>>
     ensures { option_map line_of result ≡ named_check (rows_of (found_of inner.now)) }
 {
@@ -452,6 +467,7 @@ fn operands_of<'m, 'a>(matches: &'m ArgMatches<'a>) -> Option<Operands<'m, 'a>>
         "reports" => reports_operands(inner),
         "queries" => queries_operands(inner),
         "dump" => dump_operands(inner),
+        "views" => views_operands(inner),
         "check" => check_operands(inner),
         "status" => status_operands(inner),
         "session" => session_operands(inner),
@@ -651,6 +667,7 @@ fn requested<'m, 'a>(alloc: Global, operands: Operands<'m, 'a>) -> Result<Reques
         Operands::Reports { file, list } => Ok(Request::Task(Task::Reports { file, list })),
         Operands::Queries { file, list } => Ok(Request::Task(Task::Queries { file, list })),
         Operands::Dump { file, table } => dump_request(alloc, file, table),
+        Operands::Views { file } => Ok(Request::Task(Task::Views { file })),
         Operands::Check { file } => Ok(Request::Task(Task::Check { file })),
         Operands::Status { file } => Ok(Request::Task(Task::Status { file })),
         Operands::Session { file } => Ok(Request::Task(Task::Session { file })),
