@@ -165,7 +165,7 @@ def unread(words, whole, is_kept):
 
 AGE = f"report w customer.age_band was {DAYS}"
 QUERY = f"query w {DAYS} product.category:is date.month"
-RUNS = [("after11", AGE, 24), ("after11", QUERY, 24), ("after11", "records w product", 48), ("after11", "dump w command", 64), ("after3", "plan w product p3 p3", 8), ("after3", "deliver w night", 12)]
+RUNS = [("after11", AGE, 24), ("after11", QUERY, 24), ("after11", "records w product", 48), ("after11", "views w", 512), ("after11", "dump w command", 64), ("after3", "plan w product p3 p3", 8), ("after3", "deliver w night", 12)]
 for file, words, part in RUNS:
     copy(f"{folder}/{file}", f"{folder}/w")
     whole = run(PROGRAM, folder, words)

@@ -5,7 +5,8 @@ Build the program first (`rt run` in crates/wh).
 usage: queried.py [TRIES] [PROGRAM]
 
 A shop has attributes of each type and awkward texts as their values, sales without a card and of members that no record describes, and late records. It is
-asked in format 1; then, under a policy with other types, after an upgrade and with voids, in format 2. A try asks for one slice (a range of days, and up to
+asked in format 1; then, under a policy with other types, after an upgrade and with voids, in format 2. The views of `wh views` have to show by each column
+what a query answers. A try asks for one slice (a range of days, and up to
 twelve conditions) by one to six columns and by others: both answers are those of SQLite, and come to the same sums. The small shop is asked ten times as
 often: also by the label of a line, by one column as a report is, as a table, and what is refused. At last, programs that answer wrong have to be found. The same numbers
 give the same tries.
@@ -341,6 +342,21 @@ class Judge:
         return [fault for it in (*kinds, turned) for fault in self.of_query(it)[1]]
 
 
+def viewed(shop):
+    """What is wrong with the views: by each column they have what a query answers."""
+    shop.base.executescript(run(["views", "w"]).text.decode())
+    faults = []
+    for column in {it.name: it for it in shop.columns if not it.fault}.values():
+        attribute, _, mode = column.name.partition(":")
+        name = "prior_" * (mode == "prior") + attribute.replace("date.", "").replace(".", "_")
+        question = f"SELECT {name}, count(*), sum(quantity), sum(amount), sum(cost), sum(margin) FROM sales_as_{'is' if mode in ('is', 'prior') else 'was'} GROUP BY 1 ORDER BY 1"
+        shown = [[bytes(label).decode(), *figures] for label, *figures in shop.base.execute(question)]
+        asked = [[label, *map(hundredths, figures)] for label, *figures in lines_of(run(Query([column], [], "1900-01-01", "9999-12-31").words()))]
+        if shown != asked or not shown:
+            faults.append(f"{question}: {shown}, and not {asked}")
+    return faults
+
+
 # ---- programs that answer wrong
 
 def exchanged(words):
@@ -388,10 +404,11 @@ for name, shop, tries, kinds in (
     ("195,000 facts", Shop(1, 39, 5000, 300), TRIES, [Judge.of_slice]),
     ("2,000 facts", Shop(2, 2, 1000, 12), 10 * TRIES, [Judge.of_slice, Judge.of_label, Judge.of_report, Judge.of_table, Judge.of_refused]),
 ):
-    shop.make()
-    try_shop(name, shop, (tries + 1) // 2, kinds)
-    shop.go_on()
-    try_shop(name, shop, tries // 2, kinds)
+    for make, part in ((shop.make, (tries + 1) // 2), (shop.go_on, tries // 2)):
+        make()
+        try_shop(name, shop, part, kinds)
+        if shop.members < 100:
+            count.case(viewed(shop))
 for wrong in (exchanged, passed_over, counted_twice):
     find(shop, wrong)
 work.cleanup()

@@ -2,7 +2,7 @@
 #
 # The page is run with the built program (`rt run` in crates/wh builds it; WH names another), as `wh`, in a folder of its own beside copies of
 # examples/ and tools/. In a block of code of no language a line that begins with `$ ` is a command, and the lines up to the next one, or to the end of the
-# block, are what it must print. A block of `sql` is handed to the program sqlite3, with the file shop.wh of that folder, and a block of `python`
+# block, are what it must print. A block of `sql` is handed to the program sqlite3, behind what `wh views` prints, with the file shop.wh of that folder, and a block of `python`
 # to Python; either must answer the rows of the last report or query before it, as `label|lines|quantity|amount|cost|margin` with money in hundredths.
 # A block of `postgresql` is handed to psql, with the database shop, and must answer the same rows, with money in two decimals.
 # The last `rm` that the page's text has in such quotes must take away all that is left in the end.
@@ -60,7 +60,7 @@ run_command() {
 run_block() {
     local told
     case "$1" in
-        sql) told=$(sqlite3 -readonly shop.wh "$lines" 2>&1 < /dev/null) || true ;;
+        sql) told=$(sqlite3 -readonly shop.wh "$(wh views shop.wh) $lines" 2>&1 < /dev/null) || true ;;
         python) told=$(python3 -c "$lines" 2>&1 < /dev/null) || true ;;
         postgresql) told=$(psql -d shop -Atq -c "$lines" 2>&1 < /dev/null | in_hundredths) || true ;;
         *) return 0 ;;

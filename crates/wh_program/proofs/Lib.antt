@@ -7,6 +7,7 @@ pub mod ReadingLemmas
 pub mod ListLemmas
 pub mod WarehouseLemmas
 pub mod ExplainLemmas
+pub mod ViewLemmas
 pub mod CheckLemmas
 pub mod DeliveryLemmas
 pub mod ManifestLemmas

@@ -9,7 +9,7 @@ use Rattle.wh_program.specs.Answer.{Printed, status_code, write_line}
 use Rattle.wh_program.specs.Inputs.{Files, Refusals}
 use Rattle.wh_program.specs.Readings.{SaysWriteFailed, answer_after}
 use Rattle.wh_program.specs.Run.{GoesOut, IsCutOff, Prints}
-use Rattle.wh_words.specs.Task.{Task, Trial, Init, Load, Migrate, Upgrade, Deliver, Plan, Explain, Records, Query, Report, Reports, Queries, Dump, Check, Status, Session}
+use Rattle.wh_words.specs.Task.{Task, Trial, Init, Load, Migrate, Upgrade, Deliver, Plan, Explain, Records, Query, Report, Reports, Queries, Dump, Views, Check, Status, Session}
 use Rattle.wh_program.specs.Tasks.{Stores, Runs, SparesOthers, WhenShut}
 use Rattle.wh_program.specs.Warehouse.{Told, PrintsAnswer, printed}
 use Rattle.wh_program.specs.declared.lines.answer.Status.{Status as Ending}
@@ -91,6 +91,7 @@ not_run holds refuses before same prints goes_out e (Query file words) is p went
 not_run holds refuses before same prints goes_out e (Reports file list) is p went = λ content stood. (Err e, inr (record { same = stood; tells = tt }), p)
 not_run holds refuses before same prints goes_out e (Queries file list) is p went = λ content stood. (Err e, inr (record { same = stood; tells = tt }), p)
 not_run holds refuses before same prints goes_out e (Dump file table) is p went = λ content of_commands stood. (Err e, inr (record { same = stood; tells = tt }), p)
+not_run holds refuses before same prints goes_out e (Views file) is p went = λ content stood. (Err e, inr (record { same = stood; tells = tt }), p)
 not_run holds refuses before same prints goes_out e (Check file) is p went = λ content stood. (Err e, inr (record { same = stood; tells = tt }), p)
 not_run holds refuses before same prints goes_out e (Status file) is p went = λ content stood. (Err e, inr (record { same = stood; tells = tt }), p)
 not_run holds refuses before same prints goes_out e (Session file) is p went = (is, (Err e, tt, p))

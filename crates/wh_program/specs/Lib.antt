@@ -14,5 +14,6 @@ pub mod Lists
 pub mod ReportLists
 pub mod QueryLists
 pub mod ReportsRead
+pub mod Viewed
 pub mod Tasks
 pub mod Laws

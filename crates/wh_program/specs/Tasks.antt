@@ -10,7 +10,8 @@ use Rattle.wh_program.specs.Readings.{AnswersReport, AnswersQuery, AnswersRecord
 use Rattle.wh_program.specs.ReportLists.{AnswersReports, LacksList}
 use Rattle.wh_program.specs.QueryLists.{AnswersQueries, LacksQueries}
 use Rattle.wh_program.specs.Standing.{DatabaseContent, IsOfCommands, Standing, Rests}
-use Rattle.wh_words.specs.Task.{Task, Trial, Init, Load, Migrate, Upgrade, Deliver, Plan, Explain, Records, Query, Report, Reports, Queries, Dump, Check, Status, Session}
+use Rattle.wh_program.specs.Viewed.{AnswersViews}
+use Rattle.wh_words.specs.Task.{Task, Trial, Init, Load, Migrate, Upgrade, Deliver, Plan, Explain, Records, Query, Report, Reports, Queries, Dump, Views, Check, Status, Session}
 use Rattle.wh_program.specs.Warehouse.{Told, Makes, Sends, Plans, AnswersWith, AnswersUpgrade, AnswersStatus, IsJudgedFirst, PrintsShut, IsNoFileOr, LacksFile, LacksPolicy}
 
 -- what a host stores under its names
@@ -38,6 +39,7 @@ warehouse_of (Report file words) = Some file
 warehouse_of (Reports file list) = Some file
 warehouse_of (Queries file list) = Some file
 warehouse_of (Dump file table) = Some file
+warehouse_of (Views file) = Some file
 warehouse_of (Check file) = Some file
 warehouse_of (Status file) = Some file
 warehouse_of (Session file) = Some file
@@ -73,6 +75,7 @@ Runs holds refuses before after same prints goes_out (Report file words) = RunsO
 Runs holds refuses before after same prints goes_out (Reports file list) = RunsOver before file (λ content told. AnswersReports holds refuses (after file) content file list told) prints
 Runs holds refuses before after same prints goes_out (Queries file list) = RunsOver before file (λ content told. AnswersQueries holds refuses (after file) content file list told) prints
 Runs holds refuses before after same prints goes_out (Dump file table) = RunsOverCommands before file (λ content told. AnswersDump refuses (after file) content file table told) prints
+Runs holds refuses before after same prints goes_out (Views file) = RunsOver before file (λ content told. AnswersViews refuses (after file) content file told) prints
 Runs holds refuses before after same prints goes_out (Check file) = RunsOver before file (λ content told. AnswersCheck refuses (after file) content file told) prints
 Runs holds refuses before after same prints goes_out (Status file) = RunsOver before file (λ content told. AnswersStatus refuses (after file) content file told) prints
 Runs holds refuses before after same prints goes_out (Session file) = same × ((told : Told) × IfOk told (λ a. a ≡ refused session_line) × prints told)

@@ -26,6 +26,7 @@ use crate::visits::report::visit_report;
 use crate::visits::reports::reports;
 use crate::visits::trial::trial;
 use crate::visits::verdict::check;
+use crate::visits::views::views;
 use crate::visits::warehouse::{init, plan, send, status, upgrade};
 use std::alloc::Global;
 use std::convert::AsStr;
@@ -77,6 +78,7 @@ fn run_task<H: Host, W: Write>(alloc: Global, task: Task, host: &mut H, out: &mu
         Task::Reports { file, list } => print_answer(out, reports(alloc, file, list, host)),
         Task::Queries { file, list } => print_answer(out, queries(alloc, file, list, host)),
         Task::Dump { file, table } => print_dump(alloc, file, table, host, out),
+        Task::Views { file } => print_answer(out, views(alloc, file, host)),
         Task::Check { file } => print_answer(out, check(alloc, file, host)),
         Task::Status { file } => print_answer(out, status(alloc, file, host)),
         Task::Session { .. } => print(out, Status::Refused, SESSION_LINE),

@@ -12,4 +12,5 @@ pub(crate) mod report;
 pub(crate) mod reports;
 pub(crate) mod trial;
 pub(crate) mod verdict;
+pub(crate) mod views;
 pub(crate) mod warehouse;

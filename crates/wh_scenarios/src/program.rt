@@ -14,5 +14,6 @@ pub mod refused_reports;
 pub mod reports;
 pub mod trials;
 pub mod upgrades;
+pub mod views;
 pub mod voids;
 pub mod warehouses;

@@ -10,5 +10,6 @@ mod reports;
 mod sessions;
 mod trials;
 mod upgrades;
+mod views;
 mod voids;
 mod warehouses;

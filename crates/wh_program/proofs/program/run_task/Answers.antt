@@ -48,6 +48,9 @@ returns-in-Query-clause-shut g c = rw c.in-Query.is (λ shut. let is = c.visit_q
 pub returns-in-Report-clause-shut : goal.returns-in-Report-clause-shut
 returns-in-Report-clause-shut g c = rw c.in-Report.is (λ shut. let is = c.visit_report.ensures.shut shut in (is.0, (c.visit_report.result, IfOk-weaker c.visit_report.result _ _ (λ a closed. inl closed) is.1, c.print_answer-in-Report.ensures)))
 
+pub returns-in-Views-clause-shut : goal.returns-in-Views-clause-shut
+returns-in-Views-clause-shut g c = rw c.in-Views.is (λ shut. let is = c.views.ensures.shut shut in (is.0, (c.views.result, IfOk-weaker c.views.result _ _ (λ a closed. inl closed) is.1, c.print_answer-in-Views.ensures)))
+
 pub returns-in-Check-clause-shut : goal.returns-in-Check-clause-shut
 returns-in-Check-clause-shut g c = rw c.in-Check.is (λ shut. let is = c.check.ensures.shut shut in (is.0, (c.check.result, IfOk-weaker c.check.result _ _ (λ a closed. inl closed) is.1, c.print_answer-in-Check.ensures)))
 

@@ -1,0 +1,8 @@
+use Rattle.wh_store.specs.Reads.{state_of}
+use Rattle.wh_program.proofs.ViewLemmas.{viewed}
+use Rattle.wh_program.proofs.visits.views.ViewingWork.work.Goals as goal
+
+pub returns-clause-done : goal.returns-clause-done
+returns-clause-done g c = λ clean limits commands ready.
+    viewed limits commands c.views_answer.result c.args.engine.now.session (state_of g.S.Store c.args.engine.now.tables)
+    (rw (c.policy.ensures, c.format.ensures) at c.views_answer.ensures) ready
