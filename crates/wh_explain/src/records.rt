@@ -70,7 +70,10 @@ fn push_control(
     push_text(text, " has a control character at byte ")?;
     push_place(text, place)?;
     push_text(text, "; ")?;
-    push_meanings(text, value.get(place.saturating_add(1)).copied().unwrap_or(0))
+    push_meanings(
+        text,
+        value.get(place.saturating_add(1)).copied().unwrap_or(0),
+    )
 }
 
 /// The lines on such values of a record, behind so many others.
@@ -192,8 +195,13 @@ pub(crate) fn push_records(
     let Kind::Dimension(dim) = kind else {
         return Ok(());
     };
-    let Some(Records::Dimension(records)) =
-        records_in(alloc, kind, sent.policy, sent.format, sent.bytes)?
+    let Some(Records::Dimension(records)) = records_in(
+        alloc,
+        kind,
+        sent.policy,
+        sent.format,
+        sent.bytes,
+    )?
     else {
         return Ok(());
     };

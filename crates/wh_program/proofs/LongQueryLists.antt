@@ -75,6 +75,7 @@ cut_says cut = by (nat_lt line_limit (length line)) (is_remark line) refl refl
   where
     line : List ℕ
     line = cut ++ 255 ∷ []
+
     by : (long remark : Bool) → nat_lt line_limit (length line) ≡ long → is_remark line ≡ remark → meaning_says line (meaning_of line) ≡ NoQuery
     by true remark e f = rw e refl
     by false true e f = rw (e, f, no_text cut) refl

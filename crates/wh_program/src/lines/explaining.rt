@@ -24,11 +24,7 @@ fn acceptable_line(alloc: Global, receipt: &Receipt) -> Result<String, AllocErro
 }
 
 /// The answer to an input that would be accepted.
-fn acceptable(
-    alloc: Global,
-    preview: &Preview,
-    sent: &SentCommand,
-) -> Result<Answer, AllocError>
+fn acceptable(alloc: Global, preview: &Preview, sent: &SentCommand) -> Result<Answer, AllocError>
     ensures { IfOk result (Begins (done (acceptable_line preview.now.receipt))) }
 {
     let mut text = acceptable_line(alloc, &preview.receipt)?.into_bytes();

@@ -120,11 +120,7 @@ fn traced<S: Alter>(
     engine: &mut Engine<S>,
     kind: CommandKind,
     bytes: &[u8],
-) -> (
-    Result<Preview, Fault>,
-    Option<TracedLines>,
-    Option<LeftOut>,
-)
+) -> (Result<Preview, Fault>, Option<TracedLines>, Option<LeftOut>)
     ensures clean { WasClean S.Store engine.old.tables engine.new.tables }
     ensures previewed { WhenReady S.Store engine.old engine.new (λ limits commands. IsPreviewed limits commands kind bytes.now result.0) }
 {

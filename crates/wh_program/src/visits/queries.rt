@@ -23,7 +23,11 @@ use wh_words::{AskedQuery, QueryList};
 impl Question for AskedQuery<'_> {
     ghost answered = { λ asked. query_answered (query_words asked) };
 
-    fn answer<S: Alter>(&self, alloc: Global, engine: &mut Engine<S>) -> Result<Answer, AllocError> {
+    fn answer<S: Alter>(
+        &self,
+        alloc: Global,
+        engine: &mut Engine<S>,
+    ) -> Result<Answer, AllocError> {
         query_answer(alloc, engine, self)
     }
 }

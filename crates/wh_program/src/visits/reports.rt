@@ -23,7 +23,11 @@ use wh_words::AskedReport;
 impl Question for ListedReport {
     ghost answered = { listed_answer };
 
-    fn answer<S: Alter>(&self, alloc: Global, engine: &mut Engine<S>) -> Result<Answer, AllocError> {
+    fn answer<S: Alter>(
+        &self,
+        alloc: Global,
+        engine: &mut Engine<S>,
+    ) -> Result<Answer, AllocError> {
         let word = self.mode.as_str();
         match Mode::from_word(word) {
             Some(mode) => {
