@@ -5,15 +5,16 @@ usage: session.py [QUESTIONS] [PROGRAM]: 1,000 questions, or so many. WH names a
 
 All worked rows are asked in one session, from `init` on: each answer has to be the worked one, with its status, before the next line is sent, so an answer that
 is kept back shows as a line that doesn't come. Then lines that are passed over, that are no command, in quotes, with other ends, or none; a session whose input
-or output fails, within another, beside another process; so many questions one by one; and a session that is killed in the midst of loads, sent again.
+or output fails, within another, beside another process; so many questions one by one; a hundred times as many through a pipe, for which no more memory is
+taken; and a session that is killed in the midst of loads, sent again.
 """
 
 import os
-import resource
 import select
 import signal
 import subprocess
 import sys
+import threading
 
 from lib.program import program
 from lib.worked import DAYS, FILES, WORDS, Answer, Count, batch, expected, own_folder, printed, run, said, without_file, write_files
@@ -67,6 +68,24 @@ class Session:
         while not (line := self.line()).startswith(b"status "):
             text += line
         return Answer(text, int(line.split()[1]))
+
+    def repeats(self, text, times):
+        """Whether what comes next is a text, so many times."""
+        behind, missing = 0, times * len(text)
+        while missing:
+            if not select.select([self.process.stdout], [], [], PATIENCE)[0]:
+                raise TimeoutError(f"{missing} bytes don't come")
+            more = os.read(self.process.stdout.fileno(), min(missing, 65_536))
+            if not more or more != (text[behind:] + (len(more) // len(text) + 1) * text)[: len(more)]:
+                self.process.kill()
+                return False
+            behind, missing = (behind + len(more)) % len(text), missing - len(more)
+        return True
+
+    def peak(self):
+        """The most memory that the process has had, in kilobytes."""
+        with open(f"/proc/{self.process.pid}/status") as status:
+            return next(int(line.split()[1]) for line in status if line.startswith("VmHWM:"))
 
     def end(self):
         """What still comes, and the status."""
@@ -174,16 +193,28 @@ def beside_another():
 
 
 def one_by_one():
-    """The worked status and report in turn, each asked once the one before is answered; then many lines at once, for which no more memory is taken."""
+    """The worked status and report in turn, each asked once the one before is answered."""
     asked = [(without_file(words), expected(words, printed(20, words))) for words in ("status w", f"report w date.month was {DAYS}")]
     session = Session()
     wrong = [number for number in range(QUESTIONS) if session.ask(asked[number % 2][0]) != asked[number % 2][1]]
     equal("questions one by one", (wrong, session.end()), ([], Answer(b"", 0)))
-    before = resource.getrusage(resource.RUSAGE_CHILDREN).ru_maxrss
-    many = answered(20 * QUESTIONS * b"status\n")
-    equal("many lines", (many.text == 20 * QUESTIONS * end_of(asked[0][1]), many.status), (True, 0))
-    grown = resource.getrusage(resource.RUSAGE_CHILDREN).ru_maxrss - before
-    equal("memory for many lines, under 50 MB", grown < 50_000, True)
+
+
+def many_lines():
+    """Lines of `status` through a pipe, whose answers are read as they come. The process needs what it needed for the first ones: a page is 4 kilobytes."""
+    words, number = "status w", 100 * QUESTIONS
+    answer = end_of(expected(words, printed(20, words)))
+    session = Session()
+    session.send(100 * "status\n")
+    equal("a hundred lines", session.repeats(answer, 100), True)
+    before = session.peak()
+    sender = threading.Thread(target=lambda: [session.send(100 * "status\n") for _ in range(number // 100)])
+    sender.start()
+    equal("many lines", session.repeats(answer, number), True)
+    sender.join()
+    grown = session.peak() - before
+    equal(f"memory for {number} lines: {grown} kilobytes", grown <= 8, True)
+    equal("the end after many lines", session.end(), Answer(b"", 0))
 
 
 def loads(number):
@@ -224,5 +255,6 @@ as_alone()
 failures()
 beside_another()
 one_by_one()
+many_lines()
 killed()
 count.end()
