@@ -1,3 +1,4 @@
 pub mod Line
 pub mod Session
+pub mod Sending
 pub mod Laws

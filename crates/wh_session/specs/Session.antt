@@ -7,7 +7,7 @@ use Rattle.wh_words.specs.WrongWord.{line}
 use Rattle.wh_program.specs.Answer.{Printed, failed, no_file_line, wrong_words}
 use Rattle.wh_program.specs.Inputs.{Files, Refusals}
 use Rattle.wh_program.specs.Run.{Declines, GoesOut, Prints, out_of_memory}
-use Rattle.wh_program.specs.Tasks.{Runs, Stores}
+use Rattle.wh_program.specs.Tasks.{Runs, RunsShut, SparesOthers, Stores, warehouse_of}
 use Rattle.wh_program.specs.Warehouse.{printed}
 use Rattle.wh_words.specs.Line.{Meaning, Passed, NoCommand, Words, meaning_of}
 use Rattle.wh_session.specs.Line.{with_file}
@@ -28,12 +28,19 @@ no_input_line = no_file_line (codes "-")
 abbrev pub IsBegun : (old new : Option (List ℕ)) → List ℕ → Type 0
 IsBegun old new text = (part rest : List ℕ) × (text ≡ part ++ rest) × Appends old new part
 
--- A host is told by the files that it holds, the names that it refuses, and what it stores.
-module _ {H : Type 0} (holds : H → Files) (refuses : H → Refusals) (stores : H → Stores) where
+-- What stands under names but a file's is left as it was, and so is the host where it can't open the file.
+pub record KeepsTo {H : Type 0} (stores : H → Stores) (shut : H → List ℕ → Type 0) (file : List ℕ) (before after : H) : Type 0 where
+  pub others : SparesOthers (stores before) (stores after) (Some file)
+  pub closed : shut before file → after ≡ before
+
+-- A host is told by the files that it holds, the names that it refuses, what it stores, and the names that it can't open.
+module _ {H : Type 0} (holds : H → Files) (refuses : H → Refusals) (stores : H → Stores) (shut : H → List ℕ → Type 0) where
   -- what a run of the program with any words does to a host, what the writer holds before and after, and its status
   pub record RunsWords (words : List (List ℕ)) (before after : H) (old new : Option (List ℕ)) (code : ℕ) : Type 0 where
     pub reads : (task : Task) → asked_by words ≡ Some task
         → Runs (holds before) (refuses before) (stores before) (stores after) (after ≡ before) (λ told. Prints old new code (printed told)) (λ cut told. GoesOut cut old new code (printed told)) task × (code ≢ 4)
+    pub others : (task : Task) → asked_by words ≡ Some task → SparesOthers (stores before) (stores after) (warehouse_of task)
+    pub closed : (task : Task) → asked_by words ≡ Some task → RunsShut (shut before) (holds before) (after ≡ before) (λ told. Prints old new code (printed told)) task
     pub declines : asked_by words ≡ None → (after ≡ before) × (((answer : Printed) × Declines (faults_in words) answer × Prints old new code answer) ⊎ Prints old new code out_of_memory)
 
   -- this is printed, and the host is as it was

@@ -1,15 +1,15 @@
 //! The lines of a console, answered one after the other.
 
-ghost use Rattle.std.specs.Prelude.{◌≡◌, ◌≢◌, ◌⊎◌, ℕ, List, Some, None, Err, IfOk, OnErr, OnOk, map, max, option_map, string_bytes};
+ghost use Rattle.std.specs.Prelude.{◌≡◌, ◌≢◌, ◌⊎◌, ℕ, List, Some, None, Err, IfOk, OnErr, OnOk, map, max, option_map, string_bytes, true};
 ghost use Rattle.std.specs.Io.KnownBytes.{Appends};
 ghost use Rattle.wh_program.specs.Answer.{failed, wrong_words};
 ghost use Rattle.wh_program.specs.Run.{Prints, out_of_memory};
-ghost use Rattle.wh_words.specs.CommandLine.{CommandLine, Says};
+ghost use Rattle.wh_words.specs.CommandLine.{CommandLine, Says, is_operand};
 ghost use Rattle.wh_words.specs.Request.{asked_in};
 ghost use Rattle.wh_words.specs.Task.{Session as SessionAsked, asked_by, task_of};
 ghost use Rattle.wh_words.specs.Line.{Passed, meaning_of};
 ghost use Rattle.wh_session.specs.Line.{with_file};
-ghost use Rattle.wh_session.specs.Session.{Goes, IsAnswered, IsBegun, OnlyPrints, RunsWords, Session, Stops, no_input_line, session_of, status_line};
+ghost use Rattle.wh_session.specs.Session.{Goes, IsAnswered, IsBegun, KeepsTo, OnlyPrints, RunsWords, Session, Stops, no_input_line, session_of, status_line};
 
 use crate::console::Console;
 use crate::line::with_file;
@@ -36,8 +36,9 @@ fn answer_words<H: Host, W: Write>(
     host: &mut H,
     out: &mut W,
 ) -> u8
-    ensures { RunsWords H.holds H.refuses H.stores (with_file file.now (map string_bytes words.items)) host.old host.new (W.contents out.old) (W.contents out.new) result
-        ⊎ OnlyPrints H.holds H.refuses H.stores out_of_memory host.old host.new (W.contents out.old) (W.contents out.new) result }
+    ensures answered { RunsWords H.holds H.refuses H.stores H.shut (with_file file.now (map string_bytes words.items)) host.old host.new (W.contents out.old) (W.contents out.new) result
+        ⊎ OnlyPrints H.holds H.refuses H.stores H.shut out_of_memory host.old host.new (W.contents out.old) (W.contents out.new) result }
+    ensures keeps { is_operand file.now ≡ true → KeepsTo H.stores H.shut file.now host.old host.new }
 {
     match with_file(alloc, file, words) {
         Ok(words) => wh_program::run(alloc, words.as_slice(), host, out),
@@ -53,8 +54,9 @@ fn answer<H: Host, W: Write>(
     host: &mut H,
     out: &mut W,
 ) -> Option<u8>
-    ensures answered { (code : ℕ) → result ≡ Some code → IsAnswered H.holds H.refuses H.stores file.now (meaning_of line.now) host.old host.new (W.contents out.old) (W.contents out.new) code }
+    ensures answered { (code : ℕ) → result ≡ Some code → IsAnswered H.holds H.refuses H.stores H.shut file.now (meaning_of line.now) host.old host.new (W.contents out.old) (W.contents out.new) code }
     ensures passed { result ≡ None → (meaning_of line.now ≡ Passed) × (host.new ≡ host.old) × (W.contents out.new ≡ W.contents out.old) }
+    ensures keeps { is_operand file.now ≡ true → KeepsTo H.stores H.shut file.now host.old host.new }
 {
     match read_line(alloc, line) {
         Ok(Line::Passed) => None,
@@ -94,8 +96,9 @@ fn answer_line<H: Host, W: Write>(
     host: &mut H,
     out: &mut W,
 ) -> Result<u8, WriteFailed>
-    ensures went { IfOk result (λ status. Goes H.holds H.refuses H.stores file.now (meaning_of line.now) host.old host.new (W.contents out.old) (W.contents out.new) status) }
-    ensures stopped { OnErr result (Stops H.holds H.refuses H.stores file.now (meaning_of line.now) host.old host.new (W.contents out.old) (W.contents out.new)) }
+    ensures went { IfOk result (λ status. Goes H.holds H.refuses H.stores H.shut file.now (meaning_of line.now) host.old host.new (W.contents out.old) (W.contents out.new) status) }
+    ensures stopped { OnErr result (Stops H.holds H.refuses H.stores H.shut file.now (meaning_of line.now) host.old host.new (W.contents out.old) (W.contents out.new)) }
+    ensures keeps { is_operand file.now ≡ true → KeepsTo H.stores H.shut file.now host.old host.new }
 {
     let Some(status) = answer(alloc, file, line, host, out) else {
         return Ok(0);
@@ -129,7 +132,8 @@ fn answer_lines<H: Host, C: Console, W: Write>(
     console: &mut C,
     out: &mut W,
 ) -> u8
-    ensures { (lines : List (List ℕ)) → C.hears console.old ≡ Some lines → Session H.holds H.refuses H.stores file.now lines host.old host.new (W.contents out.old) (W.contents out.new) result }
+    ensures session { (lines : List (List ℕ)) → C.hears console.old ≡ Some lines → Session H.holds H.refuses H.stores H.shut file.now lines host.old host.new (W.contents out.old) (W.contents out.new) result }
+    ensures keeps { is_operand file.now ≡ true → KeepsTo H.stores H.shut file.now host.old host.new }
 {
     let mut greatest = 0;
     'lines: for _ in 0..u64::MAX {
@@ -170,10 +174,12 @@ pub fn run<S: AsStr, H: Host, C: Console, W: Write>(
 ) -> u8
     // A session of the lines that are still to come.
     ensures session { (file : List ℕ) (lines : List (List ℕ)) → asked_by (map S.text words.now) ≡ Some (SessionAsked file) → C.hears console.old ≡ Some lines
-        → Session H.holds H.refuses H.stores file lines host.old host.new (W.contents out.old) (W.contents out.new) result }
+        → Session H.holds H.refuses H.stores H.shut file lines host.old host.new (W.contents out.old) (W.contents out.new) result }
+    // Whatever lines come, what stands under other names stays, and all does where the host can't open FILE; where FILE begins with no hyphen.
+    ensures keeps { (file : List ℕ) → asked_by (map S.text words.now) ≡ Some (SessionAsked file) → is_operand file ≡ true → KeepsTo H.stores H.shut file host.old host.new }
     // All other words.
     ensures runs { ((file : List ℕ) → asked_by (map S.text words.now) ≢ Some (SessionAsked file))
-        → RunsWords H.holds H.refuses H.stores (map S.text words.now) host.old host.new (W.contents out.old) (W.contents out.new) result }
+        → RunsWords H.holds H.refuses H.stores H.shut (map S.text words.now) host.old host.new (W.contents out.old) (W.contents out.new) result }
     // Where one of them is none of those that are listed, the line that says so is printed.
     ensures wrong_words { (line : CommandLine) (wrong : List ℕ) → Says (map S.text words.now) line → task_of line ≡ Err wrong → (host.new ≡ host.old)
         × (Prints (W.contents out.old) (W.contents out.new) result (wrong_words wrong) ⊎ Prints (W.contents out.old) (W.contents out.new) result out_of_memory) }

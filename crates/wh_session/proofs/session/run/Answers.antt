@@ -15,9 +15,9 @@ returns-clause-session g c = λ file lines asked heard.
     let hears = g.C.Console.hears c.args.console.now in
     let failed = fails_so old new (status_code c.print_answer.result) memory_line c.print_answer.ensures in
     let told = subst (λ (code : ℕ). Prints old new code out_of_memory) failed c.print_answer.ensures in
-    subst (λ (code : ℕ). Session g.H.Host.holds g.H.Host.refuses g.H.Host.stores file lines c.args.host.now c.args.host.now old new code) (sym (c.code.ensures ∙ failed))
-    (input_lost g.H.Host.holds g.H.Host.refuses g.H.Host.stores file lines c.args.host.now c.args.host.now old old new 0 hears
-    (none_so_far g.H.Host.holds g.H.Host.refuses g.H.Host.stores file lines c.args.host.now old hears heard) (inr (refl, told)))
+    subst (λ (code : ℕ). Session g.H.Host.holds g.H.Host.refuses g.H.Host.stores g.H.Host.shut file lines c.args.host.now c.args.host.now old new code) (sym (c.code.ensures ∙ failed))
+    (input_lost g.H.Host.holds g.H.Host.refuses g.H.Host.stores g.H.Host.shut file lines c.args.host.now c.args.host.now old old new 0 hears
+    (none_so_far g.H.Host.holds g.H.Host.refuses g.H.Host.stores g.H.Host.shut file lines c.args.host.now old hears heard) (inr (refl, told)))
 
 pub returns-clause-runs : goal.returns-clause-runs
 returns-clause-runs g c = λ other.
