@@ -172,7 +172,8 @@ impl LeftOut {
     fn add_place(&mut self, alloc: Global, durable: u64) -> Result<(), AllocError> {
         let place = self.records.len();
         if let Some(places) = self.places.get_mut(&durable) {
-            return places.push(place);
+            places.push(place)?;
+            return Ok(());
         }
         let mut places = Vec::new(alloc);
         places.push(place)?;
@@ -187,7 +188,8 @@ impl LeftOut {
             return Ok(());
         }
         self.add_place(alloc, row.durable)?;
-        self.records.push(record)
+        self.records.push(record)?;
+        Ok(())
     }
 
     /// Notes a kept record, of any member.
@@ -231,7 +233,7 @@ fn note_batch(found: &mut LeftOut, changes: &[Edit<ChangeRow, ChangeKey>]) {
 
 /// The records of a batch that leave values out, if it has some: its edits put the rows of all its records. Of other records those of
 /// the batch are noted, and no kept one yet.
-pub fn left_out(
+pub fn values_left_out(
     alloc: Global,
     kind: CommandKind,
     policy: &Policy,

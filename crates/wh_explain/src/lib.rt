@@ -26,7 +26,7 @@ mod wanted;
 
 pub use explanation::{SentCommand, add_columns, add_kind, add_refusal, add_warnings};
 pub use header::push_names;
-pub use left_out::{LeftOut, left_out};
+pub use left_out::{LeftOut, values_left_out};
 pub use line::{TracedLines, refused_lines};
 pub use shown::push_number;
 pub use views::views_text;

@@ -19,7 +19,7 @@ use crate::visits::warehouse::input_of;
 use sqlite::Alter;
 use std::alloc::{AllocError, Global};
 use wh_engine::{CommandKind, Engine, Fault, Preview, Refusal};
-use wh_explain::{LeftOut, SentCommand, TracedLines, left_out, refused_lines};
+use wh_explain::{LeftOut, SentCommand, TracedLines, refused_lines, values_left_out};
 use wh_plan::Edits;
 use wh_policy::{Format, Policy};
 use wh_rows::tables;
@@ -107,7 +107,7 @@ fn left_out_of<S: Alter>(
 ) -> Result<Option<LeftOut>, Fault>
     ensures { EngineReadsThrough S.Store engine.old engine.new result }
 {
-    match left_out(alloc, kind, engine.policy(), &edits.changes)? {
+    match values_left_out(alloc, kind, engine.policy(), &edits.changes)? {
         Some(left_out) => compared(alloc, engine, left_out),
         None => Ok(None),
     }
