@@ -6,8 +6,9 @@ use Rattle.wh_program.specs.Run.{GoesOut, Prints}
 use Rattle.wh_program.specs.Tasks.{IsToldBefore, Runs, RunsShut, SparesOthers, Stores, WhenShut, warehouse_of}
 use Rattle.wh_program.specs.Warehouse.{IsNoFileOr, PrintsShut, Told, printed}
 use Rattle.wh_words.specs.CommandLine.{is_operand}
-use Rattle.wh_words.specs.Task.{Task, Trial, Init, Load, Migrate, Upgrade, Deliver, Plan, Explain, Records, Query, Report, Reports, Dump, Check, Status, Session as SessionAsked, asked_by}
-use Rattle.wh_session.specs.Line.{Meaning, Passed, NoCommand, Words, meaning_of, with_file}
+use Rattle.wh_words.specs.Task.{Task, Trial, Init, Load, Migrate, Upgrade, Deliver, Plan, Explain, Records, Query, Report, Reports, Queries, Dump, Views, Check, Status, Session as SessionAsked, asked_by}
+use Rattle.wh_words.specs.Line.{Meaning, Passed, NoCommand, Words, meaning_of}
+use Rattle.wh_session.specs.Line.{with_file}
 use Rattle.wh_session.specs.Session.{AllGo, Fails, Goes, IsAnswered, KeepsTo, LosesInput, RunsWords, Session}
 use Rattle.wh_session.proofs.LineFiles.{line_keeps}
 
@@ -26,7 +27,9 @@ none_same holds refuses before after same prints goes_out (Records file dim from
 none_same holds refuses before after same prints goes_out (Query file words) none runs = cc
 none_same holds refuses before after same prints goes_out (Report file words) none runs = cc
 none_same holds refuses before after same prints goes_out (Reports file list) none runs = cc
+none_same holds refuses before after same prints goes_out (Queries file list) none runs = cc
 none_same holds refuses before after same prints goes_out (Dump file table) none runs = cc
+none_same holds refuses before after same prints goes_out (Views file) none runs = cc
 none_same holds refuses before after same prints goes_out (Check file) none runs = cc
 none_same holds refuses before after same prints goes_out (Status file) none runs = cc
 none_same holds refuses before after same prints goes_out (SessionAsked file) none runs = cc

@@ -20,14 +20,14 @@ use Rattle.wh_batch.specs.QueryWords.{column_given, condition_given}
 use Rattle.wh_policy.specs.Words.{dim_of_word}
 use Rattle.wh_rows.specs.Names.{table_of_name}
 use Rattle.wh_day.specs.Reading.{◌>>=◌, unless_fault}
-use Rattle.wh_words.specs.CommandLine.{CommandLine, Sent, trial_app, explain_app, records_app, query_app, init_app, load_app, migrate_app, upgrade_app, deliver_app, report_app, reports_app, dump_app, status_app, session_app, plan_app, check_app, is_operand, named, named_by, program_app}
+use Rattle.wh_words.specs.CommandLine.{CommandLine, Sent, trial_app, explain_app, records_app, query_app, init_app, load_app, migrate_app, upgrade_app, deliver_app, report_app, reports_app, queries_app, dump_app, views_app, status_app, session_app, plan_app, check_app, is_given, is_operand, named, named_by, program_app}
 use Rattle.wh_words.specs.CommandLine as line
 use Rattle.wh_words.specs.Task.{Task, asked_by, each_given, faults_in, from_asked, no_line, query_by, query_of, records_from, task_of, when_none, with_line}
 use Rattle.wh_words.specs.Task as task
 use Rattle.wh_words.specs.WrongWord.{no_dimension_line, no_kind_line, no_command_kind_line, no_mode_line, no_column_line, no_condition_line, too_many_columns_line, too_many_conditions_line, no_table_line}
 use Rattle.wh_words.proofs.CommandFaults.{not_asked, no_words}
 use Rattle.wh_words.proofs.Operands.{plain as plain_word}
-use Rattle.wh_words.proofs.Program.{bare, commands, commands_on_literals, leaf, explain_met, records_met, query_met, init_met, load_met, migrate_met, upgrade_met, deliver_met, report_met, reports_met, dump_met, status_met, session_met, plan_met, check_met, trial_met}
+use Rattle.wh_words.proofs.Program.{bare, commands, commands_on_literals, leaf, explain_met, records_met, query_met, init_met, load_met, migrate_met, upgrade_met, deliver_met, report_met, reports_met, queries_met, dump_met, views_met, status_met, session_met, plan_met, check_met, trial_met}
 use Rattle.wh_words.proofs.Reading.{Meets, command_is, first_faulty, start, took, unknown, walked_is}
 use Rattle.wh_program.specs.Tasks.{warehouse_of}
 use Rattle.wh_session.specs.Line.{with_file}
@@ -46,9 +46,11 @@ file_in (line.Plan file kind id path) = Some file
 file_in (line.Explain file kind path) = Some file
 file_in (line.Records file dimension from) = Some file
 file_in (line.Report file attribute mode from to) = Some file
-file_in (line.Query file from to columns conditions) = Some file
+file_in (line.Query file from to columns conditions as_table) = Some file
 file_in (line.Reports file list) = Some file
+file_in (line.Queries file list) = Some file
 file_in (line.Dump file table) = Some file
+file_in (line.Views file) = Some file
 file_in (line.Check file) = Some file
 file_in (line.Status file) = Some file
 file_in (line.Session file) = Some file
@@ -81,13 +83,15 @@ asks_for (line.Explain file kind path) = found_for (Some file) (λ k. task.Expla
 asks_for (line.Records file dimension from) =
     then_for (Some file) (ok_or (dim_of_word dimension) (no_dimension_line dimension)) (records_from file from) (λ dim. then_for (Some file) (from_asked from) (λ number. Ok (task.Records file dim number)) (λ number. refl))
 asks_for (line.Report file attribute mode from to) = found_for (Some file) (λ m. task.Report file (record { attribute = attribute; mode = m; from = from; to = to })) (mode_of_word mode) (no_mode_line mode) (λ m. refl)
-asks_for (line.Query file from to columns conditions) =
-    unless_for (Some file) (nat_le (length columns) 6) too_many_columns_line (unless_fault (nat_le (length conditions) 12) too_many_conditions_line (query_of file from to columns conditions))
-    (unless_for (Some file) (nat_le (length conditions) 12) too_many_conditions_line (query_of file from to columns conditions)
-    (then_for (Some file) (with_line no_column_line (each_given column_given columns)) (λ shown. query_by file from to shown conditions)
-    (λ shown. then_for (Some file) (with_line no_condition_line (each_given condition_given conditions)) (λ held. Ok (task.Query file (record { columns = shown; conditions = held; from = from; to = to }))) (λ held. refl))))
+asks_for (line.Query file from to columns conditions as_table) =
+    unless_for (Some file) (nat_le (length columns) 6) too_many_columns_line (unless_fault (nat_le (length conditions) 12) too_many_conditions_line (query_of file from to columns conditions as_table))
+    (unless_for (Some file) (nat_le (length conditions) 12) too_many_conditions_line (query_of file from to columns conditions as_table)
+    (then_for (Some file) (with_line no_column_line (each_given column_given columns)) (λ shown. query_by file from to shown conditions as_table)
+    (λ shown. then_for (Some file) (with_line no_condition_line (each_given condition_given conditions)) (λ held. Ok (task.Query file (record { columns = shown; conditions = held; from = from; to = to; as_table = as_table }))) (λ held. refl))))
 asks_for (line.Reports file list) = refl
+asks_for (line.Queries file list) = refl
 asks_for (line.Dump file table) = found_for (Some file) (λ t. task.Dump file t) (table_of_name table) (no_table_line table) (λ t. refl)
+asks_for (line.Views file) = refl
 asks_for (line.Check file) = refl
 asks_for (line.Status file) = refl
 asks_for (line.Session file) = refl
@@ -258,13 +262,13 @@ module _ (file : Text) where
   migrate_so (Some x) (Some y) None is = tt
   migrate_so (Some x) (Some y) (Some z) is = is
 
-  query_so : (f d t : Option Text) (b : Option (List Text)) (conditions : List Text) → f ≡ Some file
-      → IfSome (option_and_then (λ x. option_and_then (λ y. option_and_then (λ z. option_map (λ columns. line.Query x y z columns conditions) b) t) d) f) IsOfFile
-  query_so None d t b conditions is = tt
-  query_so (Some x) None t b conditions is = tt
-  query_so (Some x) (Some y) None b conditions is = tt
-  query_so (Some x) (Some y) (Some z) None conditions is = tt
-  query_so (Some x) (Some y) (Some z) (Some columns) conditions is = is
+  query_so : (f d t : Option Text) (b : Option (List Text)) (conditions : List Text) (as_table : Bool) → f ≡ Some file
+      → IfSome (option_and_then (λ x. option_and_then (λ y. option_and_then (λ z. option_map (λ columns. line.Query x y z columns conditions as_table) b) t) d) f) IsOfFile
+  query_so None d t b conditions as_table is = tt
+  query_so (Some x) None t b conditions as_table is = tt
+  query_so (Some x) (Some y) None b conditions as_table is = tt
+  query_so (Some x) (Some y) (Some z) None conditions as_table is = tt
+  query_so (Some x) (Some y) (Some z) (Some columns) conditions as_table is = is
 
   report_so : (f a m d t : Option Text) → f ≡ Some file
       → IfSome (option_and_then (λ x. option_and_then (λ y. option_and_then (λ z. option_and_then (λ from. option_map (λ to. line.Report x y z from to) t) d) m) a) f) IsOfFile
@@ -292,7 +296,7 @@ module _ (file : Text) where
   records_names rows is = two_names (λ f d. line.Records f d (first_of (codes "FROM") rows)) (first_of FILE rows) (first_of (codes "DIMENSION") rows) (λ f d. refl) is
 
   query_names : NamesFile (named_by (codes "query"))
-  query_names rows is = query_so (first_of FILE rows) (first_of (codes "FROM") rows) (first_of (codes "TO") rows) (all_of (codes "BY") rows) (unwrap_or (all_of (codes "WHERE") rows) []) is
+  query_names rows is = query_so (first_of FILE rows) (first_of (codes "FROM") rows) (first_of (codes "TO") rows) (all_of (codes "BY") rows) (unwrap_or (all_of (codes "WHERE") rows) []) (is_given (first_of (codes "TABLE") rows)) is
 
   init_names : NamesFile (named_by (codes "init"))
   init_names rows is = two_names (λ f p. line.Init f p) (first_of FILE rows) (first_of (codes "POLICY") rows) (λ f p. refl) is
@@ -318,8 +322,14 @@ module _ (file : Text) where
   reports_names : NamesFile (named_by (codes "reports"))
   reports_names rows is = two_names (λ f l. line.Reports f l) (first_of FILE rows) (first_of (codes "LIST") rows) (λ f l. refl) is
 
+  queries_names : NamesFile (named_by (codes "queries"))
+  queries_names rows is = two_names (λ f l. line.Queries f l) (first_of FILE rows) (first_of (codes "LIST") rows) (λ f l. refl) is
+
   dump_names : NamesFile (named_by (codes "dump"))
   dump_names rows is = two_names (λ f t. line.Dump f t) (first_of FILE rows) (first_of (codes "TABLE") rows) (λ f t. refl) is
+
+  views_names : NamesFile (named_by (codes "views"))
+  views_names rows is = one_names (λ f. line.Views f) (first_of FILE rows) (λ f. refl) is
 
   check_names : NamesFile (named_by (codes "check"))
   check_names rows is = one_names (λ f. line.Check f) (first_of FILE rows) (λ f. refl) is
@@ -404,9 +414,17 @@ module _ (file : Text) where
     unfolding commands_on_literals
     reports_keeps = built_so (codes "reports") (leaf reports_app) reports_met refl refl (record { held = inl (refl, refl); waits_so = tt; later = omega arith; goes = refl }) reports_names
 
+    queries_keeps : (rest : List Text) → Keeps (codes "queries" ∷ file ∷ rest)
+    unfolding commands_on_literals
+    queries_keeps = built_so (codes "queries") (leaf queries_app) queries_met refl refl (record { held = inl (refl, refl); waits_so = tt; later = omega arith; goes = refl }) queries_names
+
     dump_keeps : (rest : List Text) → Keeps (codes "dump" ∷ file ∷ rest)
     unfolding commands_on_literals
     dump_keeps = built_so (codes "dump") (leaf dump_app) dump_met refl refl (record { held = inl (refl, refl); waits_so = tt; later = omega arith; goes = refl }) dump_names
+
+    views_keeps : (rest : List Text) → Keeps (codes "views" ∷ file ∷ rest)
+    unfolding commands_on_literals
+    views_keeps = built_so (codes "views") (leaf views_app) views_met refl refl (record { held = inl (refl, refl); waits_so = tt; later = omega arith; goes = refl }) views_names
 
     status_keeps : (rest : List Text) → Keeps (codes "status" ∷ file ∷ rest)
     unfolding commands_on_literals
@@ -470,7 +488,9 @@ module _ (file : Text) where
         ∷ record { name = codes "deliver"; keeps_behind = deliver_keeps }
         ∷ record { name = codes "report"; keeps_behind = report_keeps }
         ∷ record { name = codes "reports"; keeps_behind = reports_keeps }
+        ∷ record { name = codes "queries"; keeps_behind = queries_keeps }
         ∷ record { name = codes "dump"; keeps_behind = dump_keeps }
+        ∷ record { name = codes "views"; keeps_behind = views_keeps }
         ∷ record { name = codes "status"; keeps_behind = status_keeps }
         ∷ record { name = codes "session"; keeps_behind = session_keeps }
         ∷ record { name = codes "plan"; keeps_behind = plan_keeps }

@@ -36,7 +36,8 @@ use Rattle.wh_program.specs.Run.{Prints, PrintsWhole}
 use Rattle.wh_program.specs.Standing.{Holds, Standing, Rests}
 use Rattle.wh_program.specs.Tasks.{Stores}
 use Rattle.wh_program.specs.Warehouse.{AnswersUpgrade, AnswersWith, IsCommandOf, IsRefused, IsReplied, LeavesReplied, Opens, Sends, Told, printed}
-use Rattle.wh_session.specs.Line.{Meaning, Words, meaning_of, with_file}
+use Rattle.wh_words.specs.Line.{Meaning, Words, meaning_of}
+use Rattle.wh_session.specs.Line.{with_file}
 use Rattle.wh_session.specs.Laws.{AllSend}
 use Rattle.wh_session.specs.Sending.{AreSending, IsSending, sending_words, sent_text, sent_texts}
 use Rattle.wh_session.specs.Session.{AllGo, Goes, IsAnswered, RunsWords, no_command_text, status_line}

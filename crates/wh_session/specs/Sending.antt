@@ -11,7 +11,7 @@ use Rattle.wh_batch.specs.declared.manifest.ManifestEntry.{ManifestEntry}
 use Rattle.wh_program.specs.Answer.{status_code}
 use Rattle.wh_program.specs.Delivery.{answered_line, delivery_status}
 use Rattle.wh_words.specs.CommandLine.{is_operand}
-use Rattle.wh_session.specs.Line.{Words, meaning_of}
+use Rattle.wh_words.specs.Line.{Words, meaning_of}
 use Rattle.wh_session.specs.Session.{status_line}
 
 -- the words that send an input of a kind to the session's warehouse
