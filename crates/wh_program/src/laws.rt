@@ -3,7 +3,6 @@
 ghost use Rattle.wh_batch.specs.Manifest.{manifest_of};
 ghost use Rattle.wh_batch.specs.ReportList.{reports_of};
 ghost use Rattle.wh_words.specs.QueryList.{queries_of};
-ghost use Rattle.wh_program.specs.Viewed.{ViewsShowWhatReportsRead};
 ghost use Rattle.wh_program.specs.Laws.{PoliciesAreReadSo, TrialsAreReadSo, CommandsAreReadSo, LongListsAreBad};
 
 /// Nothing is lost where an input is read to its limit and a byte: a policy, a trial's batch and a command are what the whole file makes
@@ -20,9 +19,4 @@ pub fn long_manifests_are_bad()
     ensures manifests { LongListsAreBad manifest_of }
     ensures reports { LongListsAreBad reports_of }
     ensures queries { LongListsAreBad queries_of }
-{}
-
-/// Views have an attribute just where reports have the reading, from the column that these read.
-pub fn views_show_what_reports_read()
-    ensures { ViewsShowWhatReportsRead }
 {}
