@@ -1,8 +1,9 @@
-use Rattle.std.proofs.Common.{◌≡◌, ◌∙◌, refl, inr, subst, sym, ℕ}
+use Rattle.std.proofs.Common.{◌≡◌, ◌∙◌, refl, inr, subst, sym, ℕ, Err}
 use Rattle.wh_program.specs.Answer.{memory_line, status_code}
 use Rattle.wh_program.specs.Run.{GoesOut, Prints, out_of_memory}
-use Rattle.wh_program.specs.Warehouse.{printed}
-use Rattle.wh_program.proofs.RunLemmas.{is_no_usage, not_run, parted}
+use Rattle.wh_program.specs.Tasks.{IsToldBefore, warehouse_of}
+use Rattle.wh_program.specs.Warehouse.{IsNoFileOr, PrintsShut, printed}
+use Rattle.wh_program.proofs.RunLemmas.{is_no_usage, not_run, parted, shut_all, spares_all}
 use Rattle.wh_session.specs.Session.{Session}
 use Rattle.wh_session.proofs.OutputLemmas.{fails_so}
 use Rattle.wh_session.proofs.SessionLemmas.{input_lost, none_so_far}
@@ -31,5 +32,9 @@ returns-clause-runs g c = λ other.
             (λ cut answer. GoesOut cut old new c.code.result (printed answer)) c.in-Err.field-0 task refl told (parted old new c.code.result out_of_memory told),
         (λ e. is_no_usage c.print_answer.result (sym c.code.ensures ∙ e)),
       );
+      others = λ task is. spares_all (g.H.Host.stores host) (warehouse_of task);
+      closed = λ task is.
+          shut_all (g.H.Host.shut host) (warehouse_of task) (λ file. PrintsShut (host ≡ host) (IsNoFileOr file (IsToldBefore (g.H.Host.holds host) task)) (λ answer. Prints old new c.code.result (printed answer)))
+          (λ file. (refl, (Err c.in-Err.field-0, tt, told)));
       declines = λ is. (refl, inr told);
     }
