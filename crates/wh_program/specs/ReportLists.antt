@@ -1,5 +1,5 @@
 -- What the reports of a list answer.
-use Rattle.std.specs.Prelude.{List, Option, Some, None}
+use Rattle.std.specs.Prelude.{ℕ, List, Option, Some, None}
 use Rattle.wh_batch.specs.ReportList.{reports_of}
 use Rattle.wh_batch.specs.declared.report_list.ListedReport.{ListedReport}
 use Rattle.wh_history.specs.Accepted.{Accepted}
