@@ -24,8 +24,8 @@ returns-in_err-lines-clause-reads g c =
     let p = err_from_is_err_and c.from_residual-in_err-lines.result c.from_residual-in_err-lines.ensures.1 in
     rw (p.1, p.2) (and_then _ _ _ _ _ _ _ _ (and_then _ _ _ _ _ _ _ _ c.in_ok-filters.ensures.reads c.in_ok-columns.ensures.reads) c.in_err-lines.ensures.reads)
 
-pub returns-in-Err-clause-reads : goal.returns-in-Err-clause-reads
-returns-in-Err-clause-reads g c =
+pub returns-clause-reads : goal.returns-clause-reads
+returns-clause-reads g c =
     rw (c.report_fault.ensures)
     (read_not_counted (Vec ℕ Global) _ _ _ _ c.format-format.result c.in-Err.fault (answered _ _ _ _ _ tt (and_then _ _ _ _ _ _ _ _ (and_then _ _ _ _ _ _ _ _ c.in_ok-filters.ensures.reads c.in_ok-columns.ensures.reads) c.in_ok-lines.ensures.reads)))
 
@@ -45,8 +45,8 @@ returns-in_err-lines-clause-tables g c clean t at =
     (subst (λ (format : Format). AnswersTables format c.args.query.now c.args.filters.now c.args.columns.now t (Err c.in_err-lines.field-0.0)) (format_kept _ _ _ _ _ second.reads ∙ format_kept _ _ _ _ _ first.reads)
     (fault_read _ c.args.query.now c.args.filters.now c.args.columns.now _ _ t (ap (map lead_of) c.as_slice.ensures.value ∙ first.led early t at) (ap (map lead_of) c.as_slice-2.ensures.value ∙ second.led late t then_at) _ (third.sums clean t (second.reads.spares.same late t then_at tt))))
 
-pub returns-in-Err-clause-tables : goal.returns-in-Err-clause-tables
-returns-in-Err-clause-tables g c clean t at =
+pub returns-clause-tables : goal.returns-clause-tables
+returns-clause-tables g c clean t at =
     let first = c.in_ok-filters.ensures in
     let second = c.in_ok-columns.ensures in
     let third = c.in_ok-lines.ensures in
@@ -82,8 +82,8 @@ returns-in_err-lines-clause-stored g c clean stored on =
     (subst (λ (format : Format). AnswersStored format c.args.query.now c.args.filters.now c.args.columns.now stored (Err c.in_err-lines.field-0.0)) (format_kept _ _ _ _ _ second.reads ∙ format_kept _ _ _ _ _ first.reads)
     (fault_stored _ c.args.query.now c.args.filters.now c.args.columns.now _ _ stored (subst (AreLeads stored c.args.filters.now) (sym (ap (map lead_of) c.as_slice.ensures.value)) (first.stored early stored on)) (subst (AreLeads stored c.args.columns.now) (sym (ap (map lead_of) c.as_slice-2.ensures.value)) (second.stored late stored then_on)) _ (third.stored clean stored (second.reads.spares.rests late stored then_on tt))))
 
-pub returns-in-Err-clause-stored : goal.returns-in-Err-clause-stored
-returns-in-Err-clause-stored g c clean stored on =
+pub returns-clause-stored : goal.returns-clause-stored
+returns-clause-stored g c clean stored on =
     let first = c.in_ok-filters.ensures in
     let second = c.in_ok-columns.ensures in
     let third = c.in_ok-lines.ensures in
