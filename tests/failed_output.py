@@ -98,7 +98,7 @@ def answers_of(whole):
     answers = [b""]
     for line in whole.splitlines(True):
         answers[-1] += line
-        if line.startswith(b"status "):
+        if line.startswith(b"status ") and line.endswith(b"\n"):
             answers.append(b"")
     return answers[:-1]
 

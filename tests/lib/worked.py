@@ -401,7 +401,7 @@ def answers_in(text):
     """The answers that a session printed, and what stands behind the line of the last status."""
     answers, so_far = [], b""
     for line in text.splitlines(True):
-        if line.startswith(b"status "):
+        if line.startswith(b"status ") and line.endswith(b"\n"):
             answers.append(Answer(so_far, int(line.split()[1])))
             so_far = b""
         else:
