@@ -11,5 +11,4 @@ pub mod ViewLemmas
 pub mod CheckLemmas
 pub mod DeliveryLemmas
 pub mod ManifestLemmas
-pub mod LongQueryLists
 pub mod Worked

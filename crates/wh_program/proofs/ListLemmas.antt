@@ -14,13 +14,14 @@ use Rattle.wh_engine.specs.declared.fault.Fault.{Fault}
 use Rattle.wh_engine.specs.declared.fault.Fault.TheVariants as fault
 use Rattle.wh_engine.specs.declared.session.Session.{Session}
 use Rattle.wh_query.specs.Asked.{QueryAsked}
+use Rattle.wh_query.specs.declared.form.Form.{Form}
 use Rattle.wh_report.specs.Asked.{Asked}
 use Rattle.wh_batch.specs.Mode.{mode_of_word}
 use Rattle.wh_batch.specs.declared.mode.Mode.{Mode}
 use Rattle.wh_report.specs.declared.request.RequestFault.{RequestFault}
 use Rattle.wh_program.specs.Answer.{Printed}
 use Rattle.wh_program.specs.Lists.{Questions, answers_to, whole_answer, IsListed}
-use Rattle.wh_program.specs.Readings.{asked_answer, asked_under, query_answered, queried_answer, queried_under, read_answer}
+use Rattle.wh_program.specs.Readings.{asked_answer, asked_under, form_asked, query_answered, queried_answer, queried_under, read_answer}
 use Rattle.wh_program.specs.ReportLists.{answer_in, listed_answer}
 use Rattle.wh_program.specs.ReportsRead.{IsReadFor, AreReadFor}
 use Rattle.wh_program.specs.Standing.{Standing, Stands}
@@ -41,12 +42,12 @@ unfailed_in commands listed (Some mode) = unfailed_report commands _
 pub unfailed_listed : (listed : ListedReport) (commands : List Accepted) → (listed_answer listed commands).status ≢ 3
 unfailed_listed listed commands = unfailed_in commands listed (mode_of_word listed.mode)
 
-unfailed_found : (commands : List Accepted) (found : Result QueryAsked RequestFault) → (queried_answer commands found).status ≢ 3
-unfailed_found commands (Ok query) = λ e. absurd (omega (arith, e))
-unfailed_found commands (Err why) = λ e. absurd (omega (arith, e))
+unfailed_found : (commands : List Accepted) (form : Form) (found : Result QueryAsked RequestFault) → (queried_answer commands form found).status ≢ 3
+unfailed_found commands form (Ok query) = λ e. absurd (omega (arith, e))
+unfailed_found commands form (Err why) = λ e. absurd (omega (arith, e))
 
 pub unfailed_query : (words : QueryWords) (commands : List Accepted) → (query_answered words commands).status ≢ 3
-unfailed_query words commands = unfailed_found commands (queried_under (current_policy commands) words)
+unfailed_query words commands = unfailed_found commands (form_asked words.as_table) (queried_under (current_policy commands) words)
 
 -- whether an answer has failed
 abbrev failed_as : Printed → Bool

@@ -12,7 +12,7 @@ use Rattle.wh_program.proofs.visits.query.query_answer.Goals as goal
 pub query-requires : goal.query-requires
 query-requires g c =
     let words = query_words c.args.asked.now in
-    ap (query_reads c.args.engine.now.session.policy) c.in_form.ensures
+    ap (query_reads c.args.engine.now.session.policy) c.in_form-wanted.ensures
     ∙ queries_have_readings c.args.engine.now.session.policy words.columns words.conditions words.from words.to c.in-Ok.read (rw (c.policy-policy.ensures, c.as_slice-columns.ensures.value, c.as_slice-conditions.ensures.value, c.as_bytes-from.ensures.value, c.as_bytes-to.ensures.value) at c.in-Ok.ensures)
 
 pub returns-in-Ok-clause-answered : goal.returns-in-Ok-clause-answered
@@ -21,7 +21,7 @@ returns-in-Ok-clause-answered g c = λ clean limits commands ready.
     let is = rw (c.policy-policy.ensures, c.as_slice-columns.ensures.value, c.as_slice-conditions.ensures.value, c.as_bytes-from.ensures.value, c.as_bytes-to.ensures.value) at c.in-Ok.ensures in
     let under = ap (λ (s : Session). queried_under s.policy words) ready.session_is in
     queried words limits commands c.report_answer.result c.query.new.engine.session (state_of g.S.Store c.query.new.engine.tables)
-    c.in-Ok.read c.query.result (sym under ∙ is) (subst (λ q. Answers commands q c.query.result) (c.in_form.ensures ∙ ap (λ form. in_form form c.in-Ok.read) c.form_of.ensures) (c.query.ensures.answered clean limits commands ready)) c.report_answer.ensures
+    c.in-Ok.read c.query.result (sym under ∙ is) (subst (λ q. Answers commands q c.query.result) (c.in_form-wanted.ensures ∙ ap (λ form. in_form form c.in-Ok.read) c.form_of.ensures) (c.query.ensures.answered clean limits commands ready)) c.report_answer.ensures
     (c.query.ensures.reads.serves clean limits commands ready)
 
 pub returns-in-Err-Fault-clause-answered : goal.returns-in-Err-Fault-clause-answered
