@@ -199,14 +199,14 @@ module _ {H : Type 0} (holds : H → Files) (refuses : H → Refusals) (stores :
   line_sent l e sends before after old new code limits commands well stood (inl passed) = absurd (let is = sym sends.says ∙ passed.0 in cc)
   line_sent l e sends before after old new code limits commands well stood (inr (mid, answered, status)) =
       let one = answered_sent before after old mid code limits commands well e sends.id_plain sends.path_plain stood
-          (subst (λ (m : Meaning). IsAnswered holds refuses stores shut file m before after old mid code) sends.says answered) in
+      (subst (λ (m : Meaning). IsAnswered holds refuses stores shut file m before after old mid code) sends.says answered) in
       record { c = one.c; of_entry = one.of_entry; stands = one.stands; went = subst (Appends old new) one.text (Appends-trans old mid new one.line (status_line code) one.went status) }
 
   -- all of them
   pub sends_all : (lines : List (List ℕ)) (entries : List ManifestEntry) → AreSending lines entries → (before after : H) (old new : Option (List ℕ)) (code : ℕ) (limits : Limits) (commands : List Accepted)
       → stores before file (Rests (Holds limits commands)) → AllGo holds refuses stores shut file lines before after old new code → code < 3
       → (sent : List Command) × (answers : List (Result Reply Refusal)) × (standing : Standing) × AllSend holds refuses stores shut file lines entries sent before old × LeavesDelivered limits commands sent answers None standing
-          × stores after file standing × Appends old new (sent_texts sent answers)
+      × stores after file standing × Appends old new (sent_texts sent answers)
   sends_all [] [] sending before after old new code limits commands stood went well = (
     [],
     [],

@@ -55,4 +55,4 @@ module _ {H : Type 0} (holds : H → Files) (refuses : H → Refusals) (stores :
   SendingIsDelivering = (file : List ℕ) (entries : List ManifestEntry) (lines : List (List ℕ)) (before after : H) (old new : Option (List ℕ)) (code : ℕ) (limits : Limits) (commands : List Accepted)
       → is_operand file ≡ true → AreSending lines entries → stores before file (Rests (Holds limits commands)) → AllGo holds refuses stores shut file lines before after old new code → code < 3
       → (sent : List Command) × (answers : List (Result Reply Refusal)) × (standing : Standing) × AllSend file lines entries sent before old × LeavesDelivered limits commands sent answers None standing
-          × stores after file standing × Appends old new (sent_texts sent answers)
+      × stores after file standing × Appends old new (sent_texts sent answers)

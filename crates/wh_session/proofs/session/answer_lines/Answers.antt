@@ -26,11 +26,11 @@ returns-in-Err-clause-session g c = λ lines is. rw c.greater-in-Err.ensures
 pub lines-preserved : goal.lines-preserved
 lines-preserved g c = (
   λ lines is. rw c.greater-greatest.ensures
-    (one_more g.H.Host.holds g.H.Host.refuses g.H.Host.stores g.H.Host.shut c.args.file.now lines c.args.host.now c.lines.host c.answer_line.new.host
-    (g.W.Write.contents c.args.out.now) (g.W.Write.contents c.lines.out) (g.W.Write.contents c.answer_line.new.out) c.lines.greatest c.in-Ok.status
-    (g.C.Console.hears c.lines.console) (g.C.Console.hears c.next_line.new.self) c.in-Ok-Some.line.items (c.lines.invariant.0 lines is)
-    (λ left heard. rw c.in-Ok-Some.field-0-is at (c.in-Ok-Some.ensures left heard))
-    (rw c.deref.ensures.value at c.in-Ok.ensures.went)),
+      (one_more g.H.Host.holds g.H.Host.refuses g.H.Host.stores g.H.Host.shut c.args.file.now lines c.args.host.now c.lines.host c.answer_line.new.host
+      (g.W.Write.contents c.args.out.now) (g.W.Write.contents c.lines.out) (g.W.Write.contents c.answer_line.new.out) c.lines.greatest c.in-Ok.status
+      (g.C.Console.hears c.lines.console) (g.C.Console.hears c.next_line.new.self) c.in-Ok-Some.line.items (c.lines.invariant.0 lines is)
+      (λ left heard. rw c.in-Ok-Some.field-0-is at (c.in-Ok-Some.ensures left heard))
+      (rw c.deref.ensures.value at c.in-Ok.ensures.went)),
   λ plain. keeps_on g.H.Host.holds g.H.Host.refuses g.H.Host.stores g.H.Host.shut c.args.file.now c.args.host.now c.lines.host c.answer_line.new.host (c.lines.invariant.1 plain) (c.answer_line.ensures.keeps plain),
 )
 

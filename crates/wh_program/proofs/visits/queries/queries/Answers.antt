@@ -17,6 +17,6 @@ returns-in-Ok-clause-answers g c = λ content stood.
     let listed = ap (map (λ question. query_answered (query_words question))) c.as_slice-listed.ensures.value ∙ fused in
     let is = ap queries_of (sym c.deref.ensures.value) ∙ (sym c.in_ok-read.ensures ∙ c.in-Ok.ensures) in
     let made =
-        subst (λ (questions : Questions). AnswersWork (g.H.Host.refuses c.args.host.now) (g.H.Host.stores c.work_on.new.host c.args.file.now) (IsListed questions) content c.args.file.now c.work_on.result) listed
-        (c.work_on.ensures.answers content stood) in
+    subst (λ (questions : Questions). AnswersWork (g.H.Host.refuses c.args.host.now) (g.H.Host.stores c.work_on.new.host c.args.file.now) (IsListed questions) content c.args.file.now c.work_on.result) listed
+    (c.work_on.ensures.answers content stood) in
     inl (c.in-Some.text.items, rw c.in-Some.is at c.in_ok-text.ensures, rw is made)
