@@ -222,7 +222,6 @@ HEADERS = [
     (18, b"\3\3", "the versions 3 and 3 for writers and readers, which aren't 1 and 1 or 2 and 2"),
     (18, b"\1\2", "the versions 1 and 2 for writers and readers, which aren't 1 and 1 or 2 and 2"),
     (44, b"\0\0\0\1", "schema format 1, an old one"),
-    (92, b"\0\0\0\0", "a count of pages of a writer older than SQLite 3.7"),
 ]
 
 
