@@ -51,6 +51,8 @@ run_command() {
     compare "$ $command" "$told" "${lines%$'\n'}"
     case "$command" in
         'wh report '*) rows=$(rows_of_report "$told") ;;
+        # the rows of the query before it
+        'wh query '*' --table') ;;
         'wh query '*) rows=$(rows_of_query "$told") ;;
     esac
     command=
