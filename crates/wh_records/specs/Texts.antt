@@ -23,6 +23,6 @@ record_line r = row_text default_writer (record_fields r)
 unfoldable pub header_line : List Attribute → List ℕ
 header_line attributes = row_text default_writer (names (dimension_columns attributes))
 
--- the batch: the header, and a line a record
+-- the batch: the header, then each record's line
 abbrev pub records_text : List Attribute → List DimensionRecord → List ℕ
 records_text attributes records = header_line attributes ++ flat_map record_line records

@@ -21,7 +21,7 @@ pub enum Line {
     Words(Vec<String>),
 }
 
-/// Where in a line a byte stands.
+/// What the next byte of a line is part of.
 #[derive(Clone, Copy, Debug)]
 enum Place {
     /// Between words.
