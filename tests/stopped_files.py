@@ -13,7 +13,8 @@ STEP of the delivery's stops.
 
 After each stop the file is opened, or it is no warehouse where the making was stopped, which is then made again. It is clean, and the rows of its tables, ten or
 twelve of them, are those that the commands leave where each is sent alone: all whose lines went out, and perhaps the next one. The same commands again end with
-their receipts, and all twelve dumps are those of a run without a stop.
+their receipts, and all twelve dumps are those of a run without a stop. A command is one transaction: the log never holds more than one commit ahead of the
+lines that went out.
 """
 
 import os
@@ -98,6 +99,17 @@ def done(out):
     return out[: out.rfind(b"\n") + 1].count(b"accepted ")
 
 
+def commits():
+    """How many transactions the log has kept since it began anew."""
+    if not os.path.exists(f"{folder}/w-wal"):
+        return 0
+    with open(f"{folder}/w-wal", "rb") as file:
+        log = file.read()
+    frame = 24 + int.from_bytes(log[8:12], "big")
+    frames = [log[at : at + 16] for at in range(32, len(log) - frame + 1, frame)]
+    return sum(1 for it in frames if it[4:8] != bytes(4) and it[8:16] == log[16:24])
+
+
 def told_again(lines, kept):
     """The lines where so many of the commands are kept."""
     for line in lines:
@@ -140,7 +152,7 @@ def faults_again(work, name, kept):
 
 def stop_each(work, words, start, least, name):
     """Stops the words at each of their calls, from where `start` leads, and judges; how many stops that were, and of what."""
-    calls = {}
+    calls, ahead = {}, 0
     for how in ("", "half", "lost"):
         number = 1
         while True:
@@ -152,12 +164,15 @@ def stop_each(work, words, start, least, name):
                 call = file.read()
             where = f"{name}, stopped at call {number} ({call} {how})"
             out = answer.text if words == work.words else b""
+            ahead = max(ahead, commits() - done(out))
             # where a stop was before, what it left is there already
             out = out if start == work.start else out.replace(b"already ", b"accepted ")
             faults, kept = faults_after(work, where, out, least)
             count.case(faults or faults_again(work, where, kept))
             calls[call] = calls.get(call, 0) + 1
             number += work.step
+    if start == work.start and ahead != 1:
+        count.case([f"{name}: {ahead} transactions ahead of the lines"])
     return calls
 
 

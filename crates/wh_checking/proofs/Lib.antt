@@ -1,6 +1,5 @@
 pub mod SameValues
 pub mod Comparing
-pub mod ReadsOn
 pub mod ListedTables
 pub mod ListedMaps
 pub mod MadeMeta

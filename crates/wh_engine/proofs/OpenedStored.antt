@@ -21,6 +21,7 @@ use Rattle.wh_store.specs.declared.fault.OpenFault.{OpenFault}
 use Rattle.wh_store.specs.declared.fault.OpenFault.TheVariants as faults
 use Rattle.wh_engine.specs.Opened.{of_policy, of_command, policies_stored, IsTold, PolicyIs, IsPolicyless, IsSessionless, IsUnopened}
 use Rattle.wh_policy.specs.declared.format.Format.TheVariants.{Two}
+use Rattle.wh_sql.proofs.Sparing.{spares_where}
 
 -- ---- what is left
 
@@ -31,22 +32,10 @@ calm (reading.Damaged table) spared = tt
 calm (reading.Store cause) spared = absurd spared
 
 pub unread_spares : {A : Type 0} (old new : State) (why : ReadFault) → ReadsOnly {A = A} old new (Err why) → Spares old new (SparesStore (unread why))
-unread_spares old new why reads = record {
-  clean = reads.clean;
-  same = λ clean t at spared. reads.same clean t at (calm why spared);
-  left = reads.left;
-  rests = λ clean stored at spared. reads.rests clean stored at (calm why spared);
-  leaves = reads.leaves;
-}
+unread_spares old new why reads = spares_where (calm why) reads.spares
 
 pub unlimited_spares : (old new : State) (why : ReadFault) → Spares old new (RefusesNothing why) → Spares old new (SparesStore (unread why))
-unlimited_spares old new why reads = record {
-  clean = reads.clean;
-  same = λ clean t at spared. reads.same clean t at (calm why spared);
-  left = reads.left;
-  rests = λ clean stored at spared. reads.rests clean stored at (calm why spared);
-  leaves = reads.leaves;
-}
+unlimited_spares old new why reads = spares_where (calm why) reads
 
 -- ---- a command that gives no policy
 

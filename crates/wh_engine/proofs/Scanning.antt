@@ -17,7 +17,8 @@ use Rattle.wh_store.specs.declared.tables.Tables.{Tables as HeldTables}
 use Rattle.wh_sql.specs.declared.fault.ReadFault.{ReadFault}
 use Rattle.wh_sql.specs.declared.fault.ReadFault.TheVariants as reading
 use Rattle.wh_engine.specs.Answered.{IsReady}
-use Rattle.wh_engine.specs.Faults.{of_reading, stops, IsServed, IsWorkedOut, BlamesDamage, TellsTaken, NamesTable}
+use Rattle.wh_admission.specs.declared.command.Refusal.{Refusal}
+use Rattle.wh_engine.specs.Faults.{of_reading, stops, IsServed, IsWorkedOut, BlamesDamage, Judges, TellsTaken, NamesTable}
 use Rattle.wh_engine.specs.Outcome.{Outcome}
 use Rattle.wh_engine.specs.Scanned.{noting, EngineReads, IsServing, IsWanting, Reads, ReadsThrough, WhenAtRest, WhenReady}
 use Rattle.wh_engine.specs.declared.engine.Engine.{Engine}
@@ -26,6 +27,8 @@ use Rattle.wh_engine.specs.declared.fault.Fault.TheVariants as faults
 use Rattle.wh_engine.specs.declared.session.Session.{Session}
 use Rattle.wh_engine.proofs.Outcomes.{anywhere, read_and_noted}
 use Rattle.wh_history.proofs.Records.{or_false}
+use Rattle.std.proofs.lemmas.Result.{err_from_is_err_and}
+use Rattle.wh_sql.proofs.Sparing.{spares_itself, spares_where, stored_again, tables_again, tables_left, then_spares}
 
 -- ---- faults of a reading
 
@@ -75,17 +78,44 @@ still_tells {A} taken (Err fault) (reading.Store cause) came = subst (λ (f : Fa
 pub failed_after : {S A B : Type 0} (g : Ghosts S) (old new : HeldTables S) (between : State) (why : ReadFault) (result : Result A Fault) → Spares (state_of g old) between ⊤ → ReadsOnly {A = B} between (state_of g new) (Err why)
     → IsErr result × IsErrAnd result (λ fault. fault ≡ of_reading why) → Reads g old new result
 failed_after g old new between why result first last came = record {
-  spares = record {
-    clean = λ clean. first.clean (last.clean clean);
-    same = λ clean t rests served. last.same clean t (first.same (last.clean clean) t rests tt) (still_served result why came served);
-    left = λ clean t rests. last.left clean t (first.same (last.clean clean) t rests tt);
-    rests = λ clean stored rests served. last.rests clean stored (first.rests (last.clean clean) stored rests tt) (still_served result why came served);
-    leaves = λ clean stored rests. last.leaves clean stored (first.rests (last.clean clean) stored rests tt);
-  };
-  blames = λ clean stored rests. still_blames stored result why came (last.named clean stored (first.rests (last.clean clean) stored rests tt));
+  spares = spares_where (still_served result why came) (then_spares first tt last.spares);
+  blames = λ clean stored rests. still_blames stored result why came (last.named clean stored (stored_again first (last.spares.clean clean) stored rests tt));
   work = still_works result why came;
   taken = still_tells _ result why came;
 }
+
+-- what keeps a call from answering, whatever it would have answered
+pub fails_other : {S A B : Type 0} (g : Ghosts S) (old new : HeldTables S) (fault : Fault) → Reads {A = A} g old new (Err fault) → Reads {A = B} g old new (Err fault)
+fails_other g old new fault it = record { spares = it.spares; blames = it.blames; work = it.work; taken = it.taken }
+
+-- a reading of an engine's, after others that were answered
+pub reads_after : {S A : Type 0} (g : Ghosts S) (old mid new : HeldTables S) (result : Result A Fault) → Spares (state_of g old) (state_of g mid) ⊤ → Reads g mid new result → Reads g old new result
+reads_after g old mid new result first last = record {
+  spares = then_spares first tt last.spares;
+  blames = λ clean stored rests. last.blames clean stored (stored_again first (last.spares.clean clean) stored rests tt);
+  work = last.work;
+  taken = last.taken;
+}
+
+-- and it failed
+pub fails_after : {S A B : Type 0} (g : Ghosts S) (old mid new : HeldTables S) (fault : Fault) (result : Result A Fault) → Spares (state_of g old) (state_of g mid) ⊤ → Reads {A = B} g mid new (Err fault)
+    → IsErr result × IsErrAnd result (λ f. f ≡ fault) → Reads g old new result
+fails_after {A} {B} g old mid new fault result first last came =
+    let p = err_from_is_err_and result came.1 in
+    rw (p.1, p.2) (fails_other {A = B} {B = A} g old new fault (reads_after g old mid new (Err fault) first last))
+
+-- where memory ran out, or the store refused a call, nothing else is told
+wants_judged : {X Y : Type 0} (fits : X → Y → Type 0) (fault : Fault) (judged : Result Y Refusal) → IsWanting fault → Judges fits (Err fault) judged
+wants_judged fits (faults.Refused why) judged wants = absurd wants
+wants_judged fits (faults.Damaged table) judged wants = wants
+wants_judged fits faults.Memory judged wants = tt
+wants_judged fits (faults.Store cause) judged wants = tt
+wants_judged fits faults.Reopen judged wants = wants
+
+pub unread_judged : {X Y : Type 0} (fits : X → Y → Type 0) (result : Result X Fault) (judged : Result Y Refusal) (why : ReadFault) → IsErr result × IsErrAnd result (λ fault. fault ≡ of_reading why) → SparesRows why → Judges fits result judged
+unread_judged fits result judged why came undamaged =
+    let p = err_from_is_err_and result came.1 in
+    rw (p.1, p.2) (wants_judged fits (of_reading why) judged (wanting why undamaged))
 
 -- ---- a row that was handed out, or refused
 
@@ -115,13 +145,7 @@ module _ {S A : Type 0} (g : Ghosts S) where
   -- it has to be opened again
   pub shut : (e : Engine S) → IsTrue e.session.must_reopen → EngineReads {A = A} g e e (Err faults.Reopen)
   shut e flagged = record {
-    spares = record {
-      clean = λ clean. clean;
-      same = λ clean t at calm. at;
-      left = λ clean t at. at.left;
-      rests = λ clean stored on calm. on;
-      leaves = λ clean stored on. on.left;
-    };
+    spares = spares_itself;
     blames = λ clean stored on. tt;
     noted = sym (ap (λ (m : Bool). record (e.session) { must_reopen = m }) (or_false e.session.must_reopen));
     shuts = record { same = λ is. (refl, refl, refl); only = λ is. flagged };
@@ -156,19 +180,13 @@ module _ {S A : Type 0} (g : Ghosts S) where
       let t = ready.rests.tables in
       let rests = ready.rests.rests in
       subst (λ session. IsServing limits commands result session (state_of g new.tables)) (sym reads.noted)
-      (serving limits commands old.session (state_of g old.tables) (state_of g new.tables) ready result (wants clean t rests) (reads.spares.same clean t rests) (reads.spares.left clean t rests))
+      (serving limits commands old.session (state_of g old.tables) (state_of g new.tables) ready result (wants clean t rests) (tables_again reads.spares clean t rests) (tables_left reads.spares clean t rests))
 
 -- ---- one of several readings
 
 pub unserved : {A : Type 0} (s : Session) (st : State) → IsTrue s.must_reopen → ReadsThrough {A = A} s s st st (Err faults.Reopen)
 unserved s st flagged = record {
-  spares = record {
-    clean = λ clean. clean;
-    same = λ clean t at calm. at;
-    left = λ clean t at. at.left;
-    rests = λ clean stored on calm. on;
-    leaves = λ clean stored on. on.left;
-  };
+  spares = spares_itself;
   serves = λ clean limits commands ready. absurd (cc (flagged, ap (λ (q : Session). q.must_reopen) ready.session_is));
   blames = λ clean stored on. tt;
   noted = sym (ap (λ (m : Bool). record s { must_reopen = m }) (or_false s.must_reopen));

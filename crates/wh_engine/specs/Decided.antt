@@ -76,6 +76,11 @@ abbrev pub Brings : Policy → Command → Decision → Type 0
 Brings policy c (Repeat receipt) = ⊤
 Brings policy c (Accept receipt edits newer) = policy_brought c.kind policy c.bytes ≡ Ok (unwrap_or newer policy)
 
+-- it isn't that a command is accepted
+abbrev pub IsRepeat : Decision → Type 0
+IsRepeat (Repeat receipt) = ⊤
+IsRepeat (Accept receipt edits newer) = ⊥
+
 -- whatever is stored, a command that is accepted has an edit of its own row
 abbrev pub WritesItsRow : Decision → Type 0
 WritesItsRow (Repeat receipt) = ⊥

@@ -1,5 +1,5 @@
 -- Faults of an engine, and what they say of the tables.
-use Rattle.std.specs.Prelude.{◌≡◌, Bool, true, false, Result, Ok, Err, IsTrue, ⊤}
+use Rattle.std.specs.Prelude.{◌≡◌, Bool, true, false, Result, Ok, Err, IsTrue, IfErr, ⊤}
 use Rattle.wh_rows.specs.Raw.{Stored, HasDamageIn}
 use Rattle.wh_rows.specs.declared.table.Table.{Table}
 use Rattle.wh_sql.specs.declared.fault.ReadFault.{ReadFault}
@@ -16,13 +16,12 @@ of_reading (reading.Damaged table) = faults.Damaged table
 of_reading (reading.Store cause) = faults.Store cause
 
 -- no call of the store was refused
+abbrev pub SparesStore : Fault → Type 0
+SparesStore (faults.Store cause) = ⊥
+SparesStore fault = ⊤
+
 abbrev pub IsServed : {A : Type 0} → Result A Fault → Type 0
-IsServed (Ok answer) = ⊤
-IsServed (Err (faults.Refused why)) = ⊤
-IsServed (Err (faults.Damaged table)) = ⊤
-IsServed (Err faults.Memory) = ⊤
-IsServed (Err (faults.Store cause)) = ⊥
-IsServed (Err faults.Reopen) = ⊤
+IsServed result = IfErr result SparesStore
 
 -- the store refused a call
 abbrev pub stops : {A : Type 0} → Result A Fault → Bool
@@ -34,13 +33,12 @@ stops (Err (faults.Store cause)) = true
 stops (Err faults.Reopen) = false
 
 -- the table that is blamed stores a damaged row
+abbrev pub NamesDamage : Stored → Fault → Type 0
+NamesDamage stored (faults.Damaged table) = HasDamageIn stored table
+NamesDamage stored fault = ⊤
+
 abbrev pub BlamesDamage : {A : Type 0} → Stored → Result A Fault → Type 0
-BlamesDamage stored (Ok answer) = ⊤
-BlamesDamage stored (Err (faults.Refused why)) = ⊤
-BlamesDamage stored (Err (faults.Damaged table)) = HasDamageIn stored table
-BlamesDamage stored (Err faults.Memory) = ⊤
-BlamesDamage stored (Err (faults.Store cause)) = ⊤
-BlamesDamage stored (Err faults.Reopen) = ⊤
+BlamesDamage stored result = IfErr result (NamesDamage stored)
 
 -- it is this table that is named as damaged
 abbrev pub NamesTable : Table → Fault → Type 0
@@ -51,18 +49,20 @@ NamesTable table (faults.Store cause) = ⊤
 NamesTable table faults.Reopen = ⊤
 
 -- it isn't one of the answers that are given before any work
+abbrev pub ComesOfWork : Fault → Type 0
+ComesOfWork faults.Reopen = ⊥
+ComesOfWork fault = ⊤
+
 abbrev pub IsWorkedOut : {A : Type 0} → Result A Fault → Type 0
-IsWorkedOut (Ok answer) = ⊤
-IsWorkedOut (Err (faults.Refused why)) = ⊤
-IsWorkedOut (Err (faults.Damaged table)) = ⊤
-IsWorkedOut (Err faults.Memory) = ⊤
-IsWorkedOut (Err (faults.Store cause)) = ⊤
-IsWorkedOut (Err faults.Reopen) = ⊥
+IsWorkedOut result = IfErr result ComesOfWork
 
 -- that a name of the second format is taken is told only where this is so
+abbrev pub NamesTaken : Bool → Fault → Type 0
+NamesTaken taken (faults.Refused NameTaken) = IsTrue taken
+NamesTaken taken fault = ⊤
+
 abbrev pub TellsTaken : {A : Type 0} → Bool → Result A Fault → Type 0
-TellsTaken taken (Err (faults.Refused NameTaken)) = IsTrue taken
-TellsTaken taken result = ⊤
+TellsTaken taken result = IfErr result (NamesTaken taken)
 
 -- The answer is that of the definition; or memory ran out, or the store refused a call. Nothing else comes.
 abbrev pub Judges : {X Y : Type 0} → (X → Y → Type 0) → Result X Fault → Result Y Refusal → Type 0

@@ -1,14 +1,14 @@
 -- What a call leaves of an engine, and how its clauses speak of that.
 use Rattle.std.specs.Prelude.{◌≡◌, ◌||◌, List, Some, Result, Err, IsOk, IsTrue, ⊤}
 use Rattle.sqlite_trees.specs.declared.store.Store.{Ghosts}
+use Rattle.sqlite_trees.specs.Tree.{Trees}
 use Rattle.sqlite.specs.State.{State, HasCleanDisk}
 use Rattle.wh_history.specs.Accepted.{Accepted}
 use Rattle.wh_history.specs.Tables.{Limits}
-use Rattle.wh_rows.specs.AtRest.{IsAtRest}
-use Rattle.wh_rows.specs.Raw.{Stored, RestsOn}
+use Rattle.wh_rows.specs.Raw.{Stored}
 use Rattle.wh_rows.specs.Tables.{Tables as TypedTables}
 use Rattle.wh_sql.specs.declared.fault.ReadFault.{ReadFault}
-use Rattle.wh_store.specs.Reads.{ReadsOnly, Spares, SaysAtRest, SaysAsStored, is_second_taken, state_of}
+use Rattle.wh_store.specs.Reads.{IsAsItWas, ReadsOnly, Spares, SaysAtRest, SaysAsStored, is_second_taken, state_of}
 use Rattle.wh_store.specs.declared.tables.Tables.{Tables}
 use Rattle.wh_model.specs.Defined.{AreOf}
 use Rattle.wh_model.specs.Sound.{IsAccepted}
@@ -53,11 +53,11 @@ WasClean g old new = HasCleanDisk (state_of g new) → HasCleanDisk (state_of g 
 
 -- ---- what is left
 
--- any tables, and whatever was stored, are as they were where this holds
+-- where this holds any database is as it was, whatever its schema is and whoever wrote its rows, and a crash leaves nothing that it wouldn't have left before
 pub record Keeps {S : Type 0} (g : Ghosts S) (old new : Tables S) (calm : Type 0) : Type 0 where
   pub clean : HasCleanDisk (state_of g new) → HasCleanDisk (state_of g old)
-  pub same : WhenAtRest g old new (λ t. calm → IsAtRest (Some t) (state_of g new))
-  pub rests : WhenStored g old new (λ stored. calm → RestsOn stored (state_of g new))
+  pub same : HasCleanDisk (state_of g new) → calm → IsAsItWas (state_of g old) (state_of g new)
+  pub crash : HasCleanDisk (state_of g new) → calm → (trees : Trees) → (state_of g new).may_leave trees → (state_of g old).may_leave trees
 
 -- a reading of the tables leaves them as they were where this holds, and a crash leaves them; it is as a statement's reading says
 abbrev pub SparesIn : {S : Type 0} → Ghosts S → Tables S → Tables S → Type 0 → Type 0

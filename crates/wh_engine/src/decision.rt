@@ -4,14 +4,16 @@ ghost use Rattle.std.specs.Prelude.{◌≡◌, Bool, true, List, None, Some, Ok,
 ghost use Rattle.wh_batch.specs.declared.kind.Kind.TheVariants.{Dimension, Sales, Voids};
 ghost use Rattle.wh_policy.specs.declared.policy.Policy.{Policy};
 ghost use Rattle.wh_history.specs.Accepted.{Accepted, Sells, Withdraws, format_of};
+ghost use Rattle.sqlite.specs.State.{HasCleanDisk};
 ghost use Rattle.wh_rows.specs.Raw.{Stored};
 ghost use Rattle.wh_rows.specs.Types.{is_key};
 ghost use Rattle.wh_admission.specs.Admission.{content_of, current_policy, judged_policy, judged_records, judged_sales, judged_voids};
-ghost use Rattle.wh_engine.specs.Decided.{row_of_command, IsNew, IsDecided, IsDecidedNew, reply_to_known, Brings, Decides, RepeatsKept, WritesItsRow};
+ghost use Rattle.wh_engine.specs.Decided.{row_of_command, IsNew, IsDecided, IsDecidedNew, IsRepeat, reply_to_known, Brings, Decides, RepeatsKept, WritesItsRow};
 ghost use Rattle.wh_batch.specs.declared.kind.CommandKind.TheVariants.{Batch, Migration, Upgrade};
 ghost use Rattle.wh_engine.specs.Faults.{BlamesDamage, IsWorkedOut, Judges, TellsTaken};
 ghost use Rattle.wh_engine.specs.Scanned.{Reads, WhenStored};
 ghost use Rattle.wh_engine.specs.Serving.{Works};
+ghost use Rattle.wh_store.specs.Reads.{is_second_taken, state_of};
 
 use crate::admission::{number_for_records, number_for_sales, number_for_voids, receipt_of_known};
 use crate::fault::Fault;
@@ -305,6 +307,7 @@ fn decide_upgrade<S: Alter>(
     ensures decided { Works S.Store tables.old tables.new session.now (λ commands. command.now.kind ≡ Upgrade → IsDecidedNew session.now command.now result commands) }
     ensures brings { command.now.kind ≡ Upgrade → IfOk result (Brings session.now.policy command.now) }
     ensures own { IfOk result WritesItsRow }
+    ensures untaken { HasCleanDisk (state_of S.Store tables.new) → is_second_taken (state_of S.Store tables.old).now.schema ≡ true → IfOk result IsRepeat }
 {
     let number = match number_for_records(tables, alloc, session.limits, 0) {
         Ok(number) => number,
@@ -337,6 +340,7 @@ pub(crate) fn decide_new<S: Alter>(
     ensures decided { Works S.Store tables.old tables.new session.now (IsDecidedNew session.now command.now result) }
     ensures brings { IfOk result (Brings session.now.policy command.now) }
     ensures own { IfOk result WritesItsRow }
+    ensures untaken { HasCleanDisk (state_of S.Store tables.new) → command.now.kind ≡ Upgrade → is_second_taken (state_of S.Store tables.old).now.schema ≡ true → IfOk result IsRepeat }
 {
     match command.kind {
         CommandKind::Batch(Kind::Dimension(dim)) => {
@@ -356,6 +360,7 @@ fn decide_known(row: &CommandRow, command: &Command) -> Result<Decision, Fault>
     ensures known { (commands : List Accepted) → Judges (Decides commands command.now) result (reply_to_known row.now command.now) }
     ensures blames { (stored : Stored) → BlamesDamage stored result }
     ensures taken { (taken : Bool) → TellsTaken taken result }
+    ensures untaken { IfOk result IsRepeat }
 {
     match receipt_of_known(row, command) {
         Ok(receipt) => Ok(Decision::Repeat(receipt)),
@@ -374,6 +379,8 @@ pub(crate) fn decide<S: Alter>(
     ensures decided { Works S.Store tables.old tables.new session.now (IsDecided session.now command.now result) }
     ensures brings { IfOk result (Brings session.now.policy command.now) }
     ensures again { WhenStored S.Store tables.old tables.new (λ stored. IfOk result (RepeatsKept stored command.now)) }
+    // Where somebody else's object has a name of the second format, no upgrade is accepted, whatever else is stored.
+    ensures untaken { HasCleanDisk (state_of S.Store tables.new) → command.now.kind ≡ Upgrade → is_second_taken (state_of S.Store tables.old).now.schema ≡ true → IfOk result IsRepeat }
 {
     if !is_key(ID_LIMIT, command.id.as_str().as_bytes()) {
         return Err(Fault::Refused(Refusal::BadId));

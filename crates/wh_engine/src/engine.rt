@@ -1,7 +1,9 @@
 //! A warehouse that is open for commands.
 
-ghost use Rattle.std.specs.Prelude.{◌≡◌, false, Err};
+ghost use Rattle.std.specs.Prelude.{◌≡◌, true, false, Err};
 ghost use Rattle.wh_engine.specs.Answered.{IsAgain, IsAnswered, IsPerformed, IsWritten, IsGoverned, IsFormatted, IsNotAccepted, IsNoted, KeepsNothing};
+ghost use Rattle.sqlite.specs.State.{HasCleanDisk};
+ghost use Rattle.wh_batch.specs.declared.kind.CommandKind.TheVariants.{Upgrade};
 ghost use Rattle.wh_store.specs.Reads.{is_second_taken, state_of};
 ghost use Rattle.wh_engine.specs.Faults.{BlamesDamage, IsWorkedOut, TellsTaken, stops};
 ghost use Rattle.wh_engine.specs.Scanned.{Keeps, Shuts, WhenReady, WhenReadyOn, WhenStored};
@@ -40,6 +42,7 @@ fn perform<S: Alter>(
     ensures again { WhenStored S.Store tables.old tables.new (λ stored. IsAgain stored command.now result) }
     ensures work { IsWorkedOut result }
     ensures taken { TellsTaken (is_second_taken (state_of S.Store tables.new).now.schema) result }
+    ensures untaken { HasCleanDisk (state_of S.Store tables.new) → command.now.kind ≡ Upgrade → is_second_taken (state_of S.Store tables.old).now.schema ≡ true → IsNotAccepted result }
     ensures written { WhenReadyOn S.Store tables.old tables.new session.old session.new (λ limits commands _ _. IsWritten limits commands command.now result writes.new) }
     ensures silent { IsNotAccepted result → writes.new ≡ 0 }
     ensures limits { session.new.limits ≡ session.old.limits }
@@ -107,7 +110,7 @@ impl<S: Alter> Engine<S> {
     /// Answers a command. An accepted one is kept, once, in one transaction whose commit is the last call of the store. `Refused`: it isn't
     /// accepted. `Damaged`, `Memory`: nothing was written. `Store`: the store refused a call. After that every call answers `Reopen`.
     pub fn apply(&mut self, alloc: Global, command: &Command) -> Result<Reply, Fault>
-        // Any tables, and any stored rows, stay as they were where nothing was accepted.
+        // Any database stays as it was where nothing was accepted, whatever its schema is and whoever wrote its rows.
         ensures keeps { Keeps S.Store self.old.tables self.new.tables (KeepsNothing result) }
         ensures answered { WhenReady S.Store self.old self.new (λ limits commands. IsAnswered limits commands command.now result) }
         // The table that is named as damaged stores a damaged row.
@@ -116,6 +119,8 @@ impl<S: Alter> Engine<S> {
         ensures again { WhenStored S.Store self.old.tables self.new.tables (λ stored. IsAgain stored command.now result) }
         // That a name of the second format is taken is told only where it is.
         ensures taken { TellsTaken (is_second_taken (state_of S.Store self.new.tables).now.schema) result }
+        // Where one is, in whatever database, no upgrade is accepted.
+        ensures untaken { HasCleanDisk (state_of S.Store self.new.tables) → command.now.kind ≡ Upgrade → is_second_taken (state_of S.Store self.old.tables).now.schema ≡ true → IsNotAccepted result }
         ensures shuts { Shuts self.old self.new (result ≡ Err Fault.Reopen) }
         // The limits stay, and so do the policy and the format, but for those of an accepted migration and upgrade.
         ensures noted { self.old.session.must_reopen ≡ false → IsNoted self.old.session self.new.session command.now result }

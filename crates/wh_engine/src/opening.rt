@@ -1,11 +1,11 @@
 //! Making a warehouse, and opening one.
 
-ghost use Rattle.std.specs.Prelude.{◌≡◌, ◌≢◌, true, false, [], ◌∷◌, slice_get, None, Some, Ok, Err, IfOk, IfErr, OnOk, IsTrue};
+ghost use Rattle.std.specs.Prelude.{◌≡◌, ◌≢◌, true, false, [], ◌∷◌, slice_get, None, Some, Ok, Err, IfOk, IfErr, OnOk, IsTrue, ⊤};
 ghost use Rattle.sqlite.specs.Held.{state};
 ghost use Rattle.sqlite.specs.State.{HasCleanDisk};
 ghost use Rattle.wh_policy.specs.Policy.{read_policy};
 ghost use Rattle.wh_rows.specs.AtRest.{IsAtRest};
-ghost use Rattle.wh_store.specs.Reads.{is_any_taken, has_tables, state_of, SaysAtRest, SaysAsStored};
+ghost use Rattle.wh_store.specs.Reads.{Spares, has_second, has_tables, is_any_taken, state_of, SaysAtRest, SaysAsStored};
 ghost use Rattle.wh_store.specs.Opening.{IsServed, SparesStore};
 ghost use Rattle.wh_policy.specs.declared.format.Format.TheVariants.{Two};
 ghost use Rattle.wh_policy.specs.Formats.{is_two};
@@ -103,6 +103,7 @@ fn session_of<S: Alter>(
     ensures stored { WhenStored S.Store tables.old tables.new (λ stored. FormatIs Two (is_two stored.format) stored (Ok format) → IfOk result (SessionIs stored)) }
     ensures sessionless { WhenStored S.Store tables.old tables.new (λ stored. IfErr result (IsSessionless stored)) }
     ensures fresh { IfOk result (λ session. session.must_reopen ≡ false) }
+    ensures format { IfOk result (λ session. session.format ≡ format) }
 {
     let limits = tables.limits(alloc)?;
     match policy_in(tables, alloc) {
@@ -171,8 +172,9 @@ impl<S: Alter> Engine<S> {
     /// - `Memory`: a growth was refused outside the store.
     /// - `Store`: the store refused a call, or a transaction is open (`Store(Disk)`).
     pub fn open(alloc: Global, conn: Connection<S>) -> Result<Engine<S>, (OpenFault, Connection<S>)>
-        ensures clean { IfOpened S.Store conn result (λ old new _. HasCleanDisk new → HasCleanDisk old) }
-        ensures clean_left { IfHandedBack S.Store conn result (λ old new _. HasCleanDisk new → HasCleanDisk old) }
+        // It changes nothing in any database unless the store refuses a call.
+        ensures spares { IfOpened S.Store conn result (λ old new _. Spares old new ⊤) }
+        ensures spares_left { IfHandedBack S.Store conn result (λ old new why. Spares old new (SparesStore why)) }
         ensures ready { IfOpened S.Store conn result (λ old new engine. WhenAdmitted old new (λ limits commands. IsReady limits commands engine.session)) }
         ensures refused { IfHandedBack S.Store conn result (λ old new why. WhenAdmitted old new (λ limits commands. IsNotOpened limits commands why)) }
         // The same of any tables of either format all of whose rows are of their types, admitted or not.
@@ -184,6 +186,8 @@ impl<S: Alter> Engine<S> {
         ensures fresh { IfOk result (λ engine. (engine.session.must_reopen ≡ false) × (engine.writes ≡ 0)) }
         ensures within { IsTrue conn.in_transaction → result ≡ Err (OpenFault.Store Cause.Disk, conn) }
         ensures missing { conn.in_transaction ≡ false → has_tables (state S.Store conn).now.schema ≡ false → result ≡ Err (OpenFault.NotAWarehouse, conn) }
+        // Without the tables of format 2 and their columns it is of format 1, whatever meta says.
+        ensures missing_second { has_second (state S.Store conn).now.schema ≡ false → IfOk result (λ engine. engine.session.format ≡ Format.One) }
     {
         let (mut tables, format) = match Tables::open(alloc, conn, Format::Two) {
             Ok(opened) => opened,

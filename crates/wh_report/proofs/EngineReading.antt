@@ -18,6 +18,7 @@ use Rattle.wh_report.specs.declared.fact.FactFault.TheVariants as uncountable
 use Rattle.wh_report.specs.declared.output.ReportFault.{ReportFault}
 use Rattle.wh_report.specs.declared.output.ReportFault.TheVariants as report
 use Rattle.wh_history.proofs.Records.{or_false}
+use Rattle.wh_sql.proofs.Sparing.{spares_itself, stored_again, then_spares}
 
 noted_twice : {A B : Type 0} (s : Session) (x : A) (result : Result B Fault) → noting (noting s (Ok x)) result ≡ noting s result
 noted_twice s x result = ap (λ (m : Bool). record { limits = s.limits; policy = s.policy; format = s.format; must_reopen = m || stops result }) (or_false s.must_reopen)
@@ -43,13 +44,7 @@ format_kept before after old new result reads = ap (λ (s : Session). s.format) 
 -- nothing was read yet
 pub unread : {A : Type 0} (s : Session) (st : State) (x : A) → ReadsThrough s s st st (Ok x)
 unread s st x = record {
-  spares = record {
-    clean = λ clean. clean;
-    same = λ clean t at calm. at;
-    left = λ clean t at. at.left;
-    rests = λ clean stored on calm. on;
-    leaves = λ clean stored on. on.left;
-  };
+  spares = spares_itself;
   serves = λ clean limits commands ready. (refl, ready);
   blames = λ clean stored on. tt;
   noted = sym (ap (λ (m : Bool). record { limits = s.limits; policy = s.policy; format = s.format; must_reopen = m }) (or_false s.must_reopen));
@@ -59,15 +54,9 @@ unread s st x = record {
 -- one call after another
 pub and_then : {A B : Type 0} (r s t : Session) (old mid new : State) (x : A) (result : Result B Fault) → ReadsThrough r s old mid (Ok x) → ReadsThrough s t mid new result → ReadsThrough r t old new result
 and_then r s t old mid new x result first second = record {
-  spares = record {
-    clean = λ clean. first.spares.clean (second.spares.clean clean);
-    same = λ clean tables at calm. second.spares.same clean tables (first.spares.same (second.spares.clean clean) tables at tt) calm;
-    left = λ clean tables at. second.spares.left clean tables (first.spares.same (second.spares.clean clean) tables at tt);
-    rests = λ clean stored on calm. second.spares.rests clean stored (first.spares.rests (second.spares.clean clean) stored on tt) calm;
-    leaves = λ clean stored on. second.spares.leaves clean stored (first.spares.rests (second.spares.clean clean) stored on tt);
-  };
+  spares = then_spares first.spares tt second.spares;
   serves = λ clean limits commands ready. second.serves clean limits commands ((first.serves (second.spares.clean clean) limits commands ready).1);
-  blames = λ clean stored on. second.blames clean stored (first.spares.rests (second.spares.clean clean) stored on tt);
+  blames = λ clean stored on. second.blames clean stored (stored_again first.spares (second.spares.clean clean) stored on tt);
   noted = second.noted ∙ ap (λ (q : Session). noting q result) first.noted ∙ noted_twice r x result;
   only = λ is. flagged_before r s x first.noted (second.only is);
 }

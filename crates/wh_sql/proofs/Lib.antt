@@ -4,6 +4,8 @@ pub mod Reading
 mod Plain
 mod Giving
 pub mod RowByRow
+pub mod Sparing
+pub mod InTurn
 pub mod Tallying
 pub mod LinkedTallying
 mod Creating

@@ -26,6 +26,7 @@ use Rattle.wh_rows.specs.Meaning.{Means, ReadsSome, CountsAll}
 use Rattle.wh_rows.proofs.Means.{means_or, in_second, never_shows}
 use Rattle.wh_sql.proofs.Plain.{plain_returns_nothing}
 use Rattle.wh_sql.proofs.Giving.{never_commits}
+use Rattle.wh_sql.proofs.Sparing.{unchanged_spares, spares_itself}
 use Rattle.std.specs.List.Sorted.{IsPermutation}
 use Rattle.std.proofs.lemmas.List.Sorted.{IsPermutation-refl, IsPermutation-sym, IsPermutation-trans}
 use Rattle.sqlite_trees.proofs.ListLemmas.{IsPermutation-filter}
@@ -55,46 +56,12 @@ use Rattle.wh_sql.specs.declared.fault.ReadFault.TheVariants.{Memory, Damaged, S
 
 -- ---- a call that leaves what is there
 
-module _ (old new : State) (survives : Survives old new (λ _. ⊥)) (clean : HasCleanDisk new) where
-  module _ (t : Tables) (at : IsAtRest (Some t) old) where
-    leaves_same : Leaves (Some t) new
-    leaves_same = record { each = λ trees may. elim (survives.crash clean trees may) [ inl before ↦ at.left.each trees before | inr none ↦ absurd none ] }
-
-    still_rests : IsUnchanged old new → IsAtRest (Some t) new
-    still_rests same = record {
-      is_open = same.0.is_open;
-      autocommit = same.0.mode ∙ at.autocommit;
-      unmarked = same.2 ∙ at.unmarked;
-      now = subst (Has (Some t)) (sym same.0.now_is) at.now;
-      committed = same.0.committed_is ∙ (at.committed ∙ sym same.0.now_is);
-      left = leaves_same;
-    }
-
-  -- so it is of stored rows
-  module _ (stored : Stored) (at : RestsOn stored old) where
-    leaves_stored : LeavesStored stored new
-    leaves_stored = record { each = λ trees may. elim (survives.crash clean trees may) [ inl before ↦ at.left.each trees before | inr none ↦ absurd none ] }
-
-    still_stored : IsUnchanged old new → RestsOn stored new
-    still_stored same = record {
-      is_open = same.0.is_open;
-      autocommit = same.0.mode ∙ at.autocommit;
-      unmarked = same.2 ∙ at.unmarked;
-      now = subst (IsStored stored) (sym same.0.now_is) at.now;
-      committed = same.0.committed_is ∙ (at.committed ∙ sym same.0.now_is);
-      left = leaves_stored;
-    }
-
 -- whatever was made of what was read
 pub reads_unchanged : {A : Type 0} (old new : State) → Survives old new (λ _. ⊥) → (result : Result A ReadFault) → (HasCleanDisk new → IsServed result → IsUnchanged old new)
     → (HasCleanDisk new → (t : Tables) → IsAtRest (Some t) old → IsUndamaged result) → (HasCleanDisk new → (stored : Stored) → RestsOn stored old → IfErr result (NamesDamage stored)) → ReadsOnly old new result
 reads_unchanged old new survives result same sound named = record {
-  clean = λ clean. omega (arith, survives.clean, clean);
+  spares = unchanged_spares survives same;
   sound = sound;
-  same = λ clean t at served. still_rests old new survives clean t at (same clean served);
-  left = λ clean t at. leaves_same old new survives clean t at;
-  rests = λ clean stored at served. still_stored old new survives clean stored at (same clean served);
-  leaves = λ clean stored at. leaves_stored old new survives clean stored at;
   named = named;
 }
 
@@ -266,12 +233,8 @@ names_nothing stored causes.Interrupted = tt
 
 not_asked : {A : Type 0} (s : State) (cause : Cause) → ReadsOnly {A = A} s s (Err (unasked cause))
 not_asked s cause = record {
-  clean = λ clean. clean;
+  spares = spares_itself;
   sound = λ clean t at. no_row cause;
-  same = λ clean t at served. at;
-  left = λ clean t at. at.left;
-  rests = λ clean stored at served. at;
-  leaves = λ clean stored at. at.left;
   named = λ clean stored at. names_nothing stored cause;
 }
 
@@ -280,7 +243,7 @@ nothing_asked s cause result is = subst (ReadsOnly s s) (sym is) (not_asked s ca
 
 -- the same fault, of another answer
 pub said_again : {A B : Type 0} {old new : State} {fault : ReadFault} → ReadsOnly {A = A} old new (Err fault) → ReadsOnly {A = B} old new (Err fault)
-said_again here = record { clean = here.clean; sound = here.sound; same = here.same; left = here.left; rests = here.rests; leaves = here.leaves; named = here.named }
+said_again here = record { spares = here.spares; sound = here.sound; named = here.named }
 
 -- ---- a text that shows rows of one table
 

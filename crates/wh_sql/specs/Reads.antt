@@ -4,6 +4,7 @@ use Rattle.std.specs.declared.alloc.Global.{Global}
 use Rattle.std.specs.List.{list_all}
 use Rattle.sqlite.specs.Order.{Row}
 use Rattle.sqlite.specs.Schema.{Schema}
+use Rattle.sqlite.specs.Tree.{Trees}
 use Rattle.sqlite.specs.Given.{Returns}
 use Rattle.sqlite.specs.Listing.{understood}
 use Rattle.sqlite.specs.State.{State, Shown, HasCleanDisk}
@@ -13,9 +14,9 @@ use Rattle.wh_rows.specs.declared.table.Table.{Table}
 use Rattle.wh_rows.specs.declared.table.Table.TheVariants.{Change}
 use Rattle.wh_rows.specs.Holds.{Layout}
 use Rattle.wh_rows.specs.Tables.{Tables, Stores}
-use Rattle.wh_rows.specs.AtRest.{IsAtRest, Leaves}
+use Rattle.wh_rows.specs.AtRest.{IsAtRest}
 use Rattle.wh_rows.specs.Firsts.{Front}
-use Rattle.wh_rows.specs.Raw.{Stored, IsStored, HasDamage, HasAskedDamage, HasGreatestDamaged, HasDamageIn, RestsOn, LeavesStored}
+use Rattle.wh_rows.specs.Raw.{Stored, IsStored, HasDamage, HasAskedDamage, HasGreatestDamaged, HasDamageIn, RestsOn}
 use Rattle.wh_sql.specs.declared.fault.ReadFault.{ReadFault}
 use Rattle.wh_sql.specs.declared.fault.ReadFault.TheVariants.{Memory, Damaged, Store}
 use Rattle.wh_sql.specs.Refused.{IsCauseOfQuery}
@@ -54,25 +55,27 @@ IsServed result = IfErr result SparesStore
 abbrev pub IsUndamaged : {A : Type 0} → Result A ReadFault → Type 0
 IsUndamaged result = IfErr result SparesRows
 
--- Where the disk returned what was written until now, it did so before. Where tables were at rest, no row out of its type was met, they are as they
--- were unless the store refused, and a crash leaves what they held. So it is of whatever was stored, but that a row of it may be damaged, and then
--- the table that is named stores such a row.
-pub record ReadsOnly {A : Type 0} (old new : State) (result : Result A ReadFault) : Type 0 where
-  pub clean : HasCleanDisk new → HasCleanDisk old
-  pub sound : HasCleanDisk new → (t : Tables) → IsAtRest (Some t) old → IsUndamaged result
-  pub same : HasCleanDisk new → (t : Tables) → IsAtRest (Some t) old → IsServed result → IsAtRest (Some t) new
-  pub left : HasCleanDisk new → (t : Tables) → IsAtRest (Some t) old → Leaves (Some t) new
-  pub rests : HasCleanDisk new → (stored : Stored) → RestsOn stored old → IsServed result → RestsOn stored new
-  pub leaves : HasCleanDisk new → (stored : Stored) → RestsOn stored old → LeavesStored stored new
-  pub named : HasCleanDisk new → (stored : Stored) → RestsOn stored old → IfErr result (NamesDamage stored)
+-- the connection is as it was, whatever its database holds
+pub record IsAsItWas (old new : State) : Type 0 where
+  pub is_open : new.is_open ≡ old.is_open
+  pub now : new.now ≡ old.now
+  pub committed : new.committed ≡ old.committed
+  pub mode : new.in_transaction ≡ old.in_transaction
+  pub marks : new.marks ≡ old.marks
 
--- The same of a call that reads and answers otherwise: what was at rest is as it was where this holds.
+-- What a call that looks leaves of any database: of whatever schema, whoever wrote its rows. Where the disk returned what was written until now, it did so
+-- before; where this holds, the connection is as it was; and a crash leaves nothing that it wouldn't have left before.
 pub record Spares (old new : State) (calm : Type 0) : Type 0 where
   pub clean : HasCleanDisk new → HasCleanDisk old
-  pub same : HasCleanDisk new → (t : Tables) → IsAtRest (Some t) old → calm → IsAtRest (Some t) new
-  pub left : HasCleanDisk new → (t : Tables) → IsAtRest (Some t) old → Leaves (Some t) new
-  pub rests : HasCleanDisk new → (stored : Stored) → RestsOn stored old → calm → RestsOn stored new
-  pub leaves : HasCleanDisk new → (stored : Stored) → RestsOn stored old → LeavesStored stored new
+  pub same : HasCleanDisk new → calm → IsAsItWas old new
+  pub crash : HasCleanDisk new → (trees : Trees) → new.may_leave trees → old.may_leave trees
+
+-- So does one that reads rows, unless the store refused it. Where tables were at rest, it met no row out of its type; of whatever was stored, the table
+-- that it names as damaged stores such a row.
+pub record ReadsOnly {A : Type 0} (old new : State) (result : Result A ReadFault) : Type 0 where
+  pub spares : Spares old new (IsServed result)
+  pub sound : HasCleanDisk new → (t : Tables) → IsAtRest (Some t) old → IsUndamaged result
+  pub named : HasCleanDisk new → (stored : Stored) → RestsOn stored old → IfErr result (NamesDamage stored)
 
 -- ---- what it says
 

@@ -51,3 +51,15 @@ pub is_known : (newest : Format) (second : Bool) (number : Option ℤ) → IfOk 
 is_known newest second None = tt
 is_known One second (Some number) = known_one (int_lt number (pos 1)) (int_lt (pos 1) number) (int_lt number (pos 2)) second (below_two number)
 is_known Two second (Some number) = known_two (int_lt number (pos 1)) (int_lt (pos 2) number) (int_lt number (pos 2)) second
+
+-- ---- without the tables of the second format it is the first
+
+single_one : (low high first : Bool) → IfOk (if low then Err OldFormat else if high then Err NewFormat else if first then Ok One else if false then Ok Two else Err NotAWarehouse) (λ format. format ≡ One)
+single_one true high first = tt
+single_one false true first = tt
+single_one false false true = refl
+single_one false false false = tt
+
+pub is_single : (newest : Format) (number : Option ℤ) → IfOk (format_of newest false number) (λ format. format ≡ One)
+is_single newest None = tt
+is_single newest (Some number) = single_one (int_lt number (pos 1)) (int_lt (pos (format_number newest)) number) (int_lt number (pos 2))

@@ -11,7 +11,7 @@ use Rattle.wh_rows.specs.Raw.{Stored, RestsOn}
 use Rattle.wh_rows.specs.Tables.{Tables as TypedTables}
 use Rattle.wh_store.specs.declared.tables.Tables.{Tables}
 -- what a crate above says of a reading, in the words of the statements
-pub use Rattle.wh_sql.specs.Reads.{ReadsOnly, Spares, IsServed, IsUndamaged, NamesDamage, SparesStore, SparesRows, IsOfDamage, IsOfAskedDamage}
+pub use Rattle.wh_sql.specs.Reads.{IsAsItWas, ReadsOnly, Spares, IsServed, IsUndamaged, NamesDamage, SparesStore, SparesRows, IsOfDamage, IsOfAskedDamage}
 pub use Rattle.wh_sql.specs.Asked.{same_text, same_slots}
 pub use Rattle.wh_sql.specs.Present.{is_any_taken, is_second_taken, has_tables, has_second}
 

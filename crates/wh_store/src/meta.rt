@@ -63,6 +63,7 @@ pub(crate) fn find_format<S: Alter>(
     ensures taken { SaysAtRest (state S.Store conn.old) (state S.Store conn.new) (λ t. IfOk result (IsTaken newest second t)) }
     ensures refused { SaysAtRest (state S.Store conn.old) (state S.Store conn.new) (λ t. IfErr result (IsRefusedWith newest second t (state S.Store conn.old) (state S.Store conn.new))) }
     ensures known { IfOk result (λ format. format_number format ≤ format_number newest) }
+    ensures single { second ≡ false → IfOk result (λ format. format ≡ Format.One) }
     // The same of any stored rows: by those of the format.
     ensures taken_stored { SaysAsStored (state S.Store conn.old) (state S.Store conn.new) (λ stored. IfOk result (λ format. FormatIs newest second stored (Ok format))) }
     ensures refused_stored { SaysAsStored (state S.Store conn.old) (state S.Store conn.new) (λ stored. IfErr result (IsRefusedOn newest second stored)) }

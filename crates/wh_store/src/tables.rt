@@ -89,6 +89,8 @@ impl<S: Alter> Tables<S> {
         ensures refused_stored { SaysAsStored (state S.Store conn) (state S.Store (connection_after result)) (λ stored. has_tables (state S.Store conn).now.schema ≡ true → IfErr result (λ e. IsRefusedOn newest (has_second (state S.Store conn).now.schema) stored e.0)) }
         ensures within { IsTrue conn.in_transaction → result ≡ Err (OpenFault.Store Cause.Disk, conn) }
         ensures missing { conn.in_transaction ≡ false → has_tables (state S.Store conn).now.schema ≡ false → result ≡ Err (OpenFault.NotAWarehouse, conn) }
+        // Without the tables of format 2 and their columns it is of format 1, whatever meta says.
+        ensures missing_second { has_second (state S.Store conn).now.schema ≡ false → IfOk result (λ opened. opened.1 ≡ Format.One) }
     {
         if !conn.is_autocommit() {
             return Err((OpenFault::Store(Cause::Disk), conn));

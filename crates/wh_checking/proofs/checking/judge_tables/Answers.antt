@@ -1,15 +1,16 @@
 use Rattle.std.proofs.Common.{◌≡◌, ◌+◌, suc, sym, subst, arith}
 use Rattle.std.proofs.lemmas.Result.{err_from_is_err_and}
 use Rattle.wh_admission.specs.Checked.{stored_in}
-use Rattle.wh_checking.proofs.ReadsOn.{answers_other, reads_on, fails_other}
+use Rattle.wh_sql.proofs.InTurn.{answers_other, then_reads, fails_other}
 use Rattle.wh_checking.specs.Judging.{IsDefinedIn}
 use Rattle.wh_checking.proofs.JudgedTables.{other_at, placed, AreDefinedTo, still_holds, one_more, clean_judged, wrong_judged, fault_judged}
 use Rattle.wh_checking.proofs.checking.judge_tables.Goals as goal
+use Rattle.wh_sql.proofs.Sparing.{stored_again}
 
 pub returns-in_err-is_defined_in-clause-reads : goal.returns-in_err-is_defined_in-clause-reads
 returns-in_err-is_defined_in-clause-reads g c =
     let p = err_from_is_err_and c.from_residual.result c.from_residual.ensures.1 in
-    rw (p.1, p.2) (fails_other _ _ _ (reads_on _ _ _ _ _ c.tables.invariant.reads c.in_err-is_defined_in.ensures.reads))
+    rw (p.1, p.2) (fails_other (then_reads c.tables.invariant.reads c.in_err-is_defined_in.ensures.reads))
 
 pub returns-in_err-is_defined_in-clause-judged : goal.returns-in_err-is_defined_in-clause-judged
 returns-in_err-is_defined_in-clause-judged g c clean stored rests same limits commands holds said =
@@ -17,8 +18,8 @@ returns-in_err-is_defined_in-clause-judged g c clean stored rests same limits co
     let of = said.formatted in
     let read = c.in_err-is_defined_in.ensures in
     let p = err_from_is_err_and c.from_residual.result c.from_residual.ensures.1 in
-    let before = read.reads.clean clean in
-    let at = kept.reads.rests before stored rests tt in
+    let before = read.reads.spares.clean clean in
+    let at = stored_again kept.reads.spares before stored rests tt in
     let defined = subst (AreDefinedTo limits commands (stored_in c.args.format stored)) (sym (placed c.tables.table-index c.tables-test.true)) (kept.defined before stored rests same limits commands of holds) in
     rw (p.1, p.2) (fault_judged limits commands (stored_in c.args.format stored) said (other_at c.tables.table-index) defined c.in_err-is_defined_in.field-0.0 (read.damaged clean stored at))
 
@@ -28,8 +29,8 @@ returns-then-not-branch-clause-judged g c clean stored rests same limits command
     let of = said.formatted in
     let read = c.in_ok-is_defined_in.ensures in
     let table = other_at c.tables.table-index in
-    let before = read.reads.clean clean in
-    let at = kept.reads.rests before stored rests tt in
+    let before = read.reads.spares.clean clean in
+    let at = stored_again kept.reads.spares before stored rests tt in
     let defined = subst (AreDefinedTo limits commands (stored_in c.args.format stored)) (sym (placed c.tables.table-index c.tables-test.true)) (kept.defined before stored rests same limits commands of holds) in
     let told = read.defined clean stored at same limits commands of (still_holds g.M.Store limits commands c.args.replica.now c.tables.replica holds (kept.still holds.1.tables (holds.0, holds.1.rests)).1) in
     wrong_judged limits commands (stored_in c.args.format stored) said table defined (subst (IsDefinedIn limits commands (stored_in c.args.format stored) table) c.if-not-branch.true told)
@@ -41,12 +42,12 @@ tables-preserved g c =
     let table = other_at c.tables.table-index in
     let less = c.tables-test.true in
     record {
-      reads = answers_other _ _ _ _ (reads_on _ _ _ _ _ kept.reads read.reads);
+      reads = answers_other (then_reads kept.reads read.reads);
       to = omega (arith, less);
       still = λ t at. read.rests t (kept.still t at);
       defined = λ clean stored rests same limits commands of holds.
-          let before = read.reads.clean clean in
-          let at = kept.reads.rests before stored rests tt in
+          let before = read.reads.spares.clean clean in
+          let at = stored_again kept.reads.spares before stored rests tt in
           let told = read.defined clean stored at same limits commands of (still_holds g.M.Store limits commands c.args.replica.now c.tables.replica holds (kept.still holds.1.tables (holds.0, holds.1.rests)).1) in
           let follows : c.tables.table-index + 1 + 2 ≡ suc (c.tables.table-index + 2) = omega arith in
           one_more limits commands (stored_in c.args.format stored) (c.tables.table-index + 2) (c.tables.table-index + 1 + 2) table follows (placed c.tables.table-index less) (kept.defined before stored rests same limits commands of holds) (subst (IsDefinedIn limits commands (stored_in c.args.format stored) table) c.if-not-branch.false told);

@@ -8,15 +8,16 @@ use Rattle.wh_store.specs.Reads.{state_of}
 use Rattle.wh_store.specs.Scan.{AreLeft, HandsOutOf, rows_left}
 use Rattle.wh_checking.proofs.Comparing.{HasSeen, seen_none, seen_next, seen_past, compared, compared_other, part_damaged}
 use Rattle.wh_checking.proofs.ListedMaps.{rows_or_not, listed}
-use Rattle.wh_checking.proofs.ReadsOn.{reads_nothing, answers_other, reads_on, runs_out}
+use Rattle.wh_sql.proofs.InTurn.{reads_nothing, answers_other, then_reads, runs_out}
 use Rattle.wh_checking.proofs.compare.has_the_same_rows.Goals as goal
 use Rattle.wh_checking.proofs.compare.has_the_same_rows.Goals.{then-same+in_ok-same-in-Some, else-same}
+use Rattle.wh_sql.proofs.Sparing.{stored_again}
 
 pub rows-init : goal.rows-init
 rows-init g c =
     let layout = g.T.StoredTable.layout in
     record {
-      reads = reads_nothing _ _;
+      reads = reads_nothing;
       rests = λ t at. at;
       valid = λ clean stored at here. rw c.new-cursor.ensures.none refl;
       seen = λ clean stored at here t there rest.
@@ -30,15 +31,15 @@ returns-in_err-row-clause-damaged g c clean stored at =
     let read = c.in_err-row.ensures in
     let p = err_from_is_err_and c.from_residual.result c.from_residual.ensures.1 in
     rw (p.1, p.2) (part_damaged (forward g.T.PagedTable.part_texts.most) g.T.StoredTable.layout g.T.KeyedTable.name (stands_behind g.T.StoredTable.layout g.T.KeyedTable.bind c.rows.cursor.unread.after) (stored.rows g.T.KeyedTable.name) c.in_err-row.field-0.0
-    (read.damaged clean stored (c.rows.invariant.reads.rests (read.reads.clean clean) stored at tt)))
+    (read.damaged clean stored (stored_again c.rows.invariant.reads.spares (read.reads.spares.clean clean) stored at tt)))
 
 pub returns-in_err-end-in-None-clause-reads : goal.returns-in_err-end-in-None-clause-reads
 returns-in_err-end-in-None-clause-reads g c =
     let p = err_from_is_err_and c.from_residual-in_err-end-in-None.result c.from_residual-in_err-end-in-None.ensures.1 in
-    rw (p.1, p.2) (runs_out _ _ _ (reads_on _ _ _ _ _ c.rows.invariant.reads c.in_ok-row.ensures.reads))
+    rw (p.1, p.2) (runs_out (then_reads c.rows.invariant.reads c.in_ok-row.ensures.reads))
 
 pub returns-in-None-clause-reads : goal.returns-in-None-clause-reads
-returns-in-None-clause-reads g c = answers_other _ _ _ _ (reads_on _ _ _ _ _ c.rows.invariant.reads c.in_ok-row.ensures.reads)
+returns-in-None-clause-reads g c = answers_other (then_reads c.rows.invariant.reads c.in_ok-row.ensures.reads)
 
 pub returns-in-None-clause-rests : goal.returns-in-None-clause-rests
 returns-in-None-clause-rests g c t at = c.in_ok-end-in-None.ensures.rests t (c.rows.invariant.rests t at)
@@ -54,9 +55,9 @@ returns-then-not-same-clause-same g c clean stored at here t there rest =
     let all = listed layout m (get m) (placed.keyed second t rest.1.now.tables) (placed.valid second t rest.1.now.tables) (λ _. refl) in
     let kept = c.rows.invariant in
     let read = c.in_ok-row.ensures in
-    let before = read.reads.clean clean in
+    let before = read.reads.spares.clean clean in
     let Left = AreLeft layout bind rows c.rows.cursor in
-    let ends : Left [] = subst (λ (found : Option _). HandsOutOf layout bind rows c.rows.cursor found c.next_row.new.cursor) c.in-None.is (read.stored clean stored here (kept.reads.rests before stored at tt)) in
+    let ends : Left [] = subst (λ (found : Option _). HandsOutOf layout bind rows c.rows.cursor found c.next_row.new.cursor) c.in-None.is (read.stored clean stored here (stored_again kept.reads.spares before stored at tt)) in
     let once = g.met.T.PagedTable.once (state_of g.S.Store c.args.tables.now).now stored at.now in
     let left = rows_left layout m c.rows.ahead in
     let seen : HasSeen layout rows (values m) left Left false = subst (HasSeen layout rows (values m) left Left) c.if-not-same.true (kept.seen before stored at here t there rest) in
@@ -74,9 +75,9 @@ returns-in-None-clause-same g c clean stored at here t there rest =
     let all = listed layout m (get m) (placed.keyed second t rest.1.now.tables) (placed.valid second t rest.1.now.tables) (λ _. refl) in
     let kept = c.rows.invariant in
     let read = c.in_ok-row.ensures in
-    let before = read.reads.clean clean in
+    let before = read.reads.spares.clean clean in
     let Left = AreLeft layout bind rows c.rows.cursor in
-    let ends : Left [] = subst (λ (found : Option _). HandsOutOf layout bind rows c.rows.cursor found c.next_row.new.cursor) c.in-None.is (read.stored clean stored here (kept.reads.rests before stored at tt)) in
+    let ends : Left [] = subst (λ (found : Option _). HandsOutOf layout bind rows c.rows.cursor found c.next_row.new.cursor) c.in-None.is (read.stored clean stored here (stored_again kept.reads.spares before stored at tt)) in
     let once = g.met.T.PagedTable.once (state_of g.S.Store c.args.tables.now).now stored at.now in
     let left = rows_left layout m c.rows.ahead in
     let seen : HasSeen layout rows (values m) left Left true = subst (HasSeen layout rows (values m) left Left) c.if-not-same.false (kept.seen before stored at here t there rest) in
@@ -92,19 +93,19 @@ rows-preserved g c =
     let read = c.in_ok-row.ensures in
     let row = c.in-Some.row in
     record {
-      reads = answers_other _ _ _ _ (reads_on _ _ _ _ _ kept.reads read.reads);
+      reads = answers_other (then_reads kept.reads read.reads);
       rests = λ t at. elim c.if-same.branch [
         | then-same+in_ok-same-in-Some w ↦ rw w.expected-is (w.in_ok-same-in-Some.ensures.rests t (kept.rests t at))
         | else-same w ↦ rw w.expected-is (kept.rests t at)
       ];
       valid = λ clean stored at here.
-          let before = read.reads.clean clean in
-          (read.valid clean stored here (kept.reads.rests before stored at tt) (kept.valid before stored at here)).1;
+          let before = read.reads.spares.clean clean in
+          (read.valid clean stored here (stored_again kept.reads.spares before stored at tt) (kept.valid before stored at here)).1;
       seen = λ clean stored at here t there rest.
-          let before = read.reads.clean clean in
+          let before = read.reads.spares.clean clean in
           let rows = stored.rows g.T.KeyedTable.name in
           let m = g.T.StoredTable.rows t in
-          let then_at = kept.reads.rests before stored at tt in
+          let then_at = stored_again kept.reads.spares before stored at tt in
           let Left = AreLeft layout bind rows c.rows.cursor in
           let Rest = AreLeft layout bind rows c.next_row.new.cursor in
           let hands : (left : List Row) → Rest left → Left (layout.encode row ∷ left) = subst (λ (found : Option _). HandsOutOf layout bind rows c.rows.cursor found c.next_row.new.cursor) c.in-Some.is (read.stored clean stored here then_at) in

@@ -15,16 +15,17 @@ use Rattle.wh_admission.specs.Checked.{stored_in}
 use Rattle.wh_store.specs.Reads.{state_of}
 use Rattle.wh_store.specs.Scan.{AreLeft, HandsOutOf}
 use Rattle.wh_checking.proofs.Comparing.{part_damaged}
-use Rattle.wh_checking.proofs.ReadsOn.{reads_nothing, answers_other, runs_out, reads_on, fails_other}
+use Rattle.wh_sql.proofs.InTurn.{reads_nothing, answers_other, runs_out, then_reads, fails_other}
 use Rattle.wh_checking.proofs.Replicating.{HasReplicated, replicated_none, replicated_next, replicated_past, told_of}
 use Rattle.wh_checking.proofs.replica.replicated_tables.Goals as goal
 use Rattle.wh_checking.proofs.replica.replicated_tables.Goals.{then-is_list+in_ok-is_list-in-Some, else-is_list}
+use Rattle.wh_sql.proofs.Sparing.{stored_again}
 
 pub rows-init : goal.rows-init
 rows-init g c =
     let good : are_limits c.args.limits ≡ true = search rules in
     record {
-      reads = reads_nothing _ _;
+      reads = reads_nothing;
       valid = λ clean stored at. rw c.new-cursor.ensures.none refl;
       replicated = λ clean stored at.
           replicated_none (stored.rows Command) c.args.limits (AreLeft row.command bind_number (stored.rows Command) c.new-cursor.result) c.new-replica.result good c.new-replica.ensures
@@ -34,19 +35,19 @@ rows-init g c =
 pub returns-in_err-row-clause-reads : goal.returns-in_err-row-clause-reads
 returns-in_err-row-clause-reads g c =
     let p = err_from_is_err_and c.from_residual.result c.from_residual.ensures.1 in
-    rw (p.1, p.2) (fails_other _ _ _ (reads_on _ _ _ _ _ c.rows.invariant.reads c.in_err-row.ensures.reads))
+    rw (p.1, p.2) (fails_other (then_reads c.rows.invariant.reads c.in_err-row.ensures.reads))
 
 pub returns-in_err-row-clause-damaged : goal.returns-in_err-row-clause-damaged
 returns-in_err-row-clause-damaged g c clean stored at =
     let read = c.in_err-row.ensures in
     let p = err_from_is_err_and c.from_residual.result c.from_residual.ensures.1 in
     rw (p.1, p.2) (part_damaged (forward texts.command.most) row.command Command (stands_behind row.command bind_number c.rows.cursor.unread.after) (stored.rows Command) c.in_err-row.field-0.0
-    (read.damaged clean stored (c.rows.invariant.reads.rests (read.reads.clean clean) stored at tt)))
+    (read.damaged clean stored (stored_again c.rows.invariant.reads.spares (read.reads.spares.clean clean) stored at tt)))
 
 pub returns-in_err-is_list-in-Some-clause-reads : goal.returns-in_err-is_list-in-Some-clause-reads
 returns-in_err-is_list-in-Some-clause-reads g c =
     let p = err_from_is_err_and c.from_residual-in_err-is_list-in-Some.result c.from_residual-in_err-is_list-in-Some.ensures.1 in
-    rw (p.1, p.2) (runs_out _ _ _ (reads_on _ _ _ _ _ c.rows.invariant.reads c.in_ok-row.ensures.reads))
+    rw (p.1, p.2) (runs_out (then_reads c.rows.invariant.reads c.in_ok-row.ensures.reads))
 
 pub returns-in_err-is_list-in-Some-clause-damaged : goal.returns-in_err-is_list-in-Some-clause-damaged
 returns-in_err-is_list-in-Some-clause-damaged g c clean stored at =
@@ -54,15 +55,15 @@ returns-in_err-is_list-in-Some-clause-damaged g c clean stored at =
     rw (p.1, p.2) tt
 
 pub returns-in-None-clause-reads : goal.returns-in-None-clause-reads
-returns-in-None-clause-reads g c = answers_other _ _ _ _ (reads_on _ _ _ _ _ c.rows.invariant.reads c.in_ok-row.ensures.reads)
+returns-in-None-clause-reads g c = answers_other (then_reads c.rows.invariant.reads c.in_ok-row.ensures.reads)
 
 pub returns-in-None-clause-replicated : goal.returns-in-None-clause-replicated
 returns-in-None-clause-replicated g c clean stored at =
     let kept = c.rows.invariant in
     let read = c.in_ok-row.ensures in
-    let before = read.reads.clean clean in
+    let before = read.reads.spares.clean clean in
     let Left = AreLeft row.command bind_number (stored.rows Command) c.rows.cursor in
-    let ends : Left [] = subst (λ (found : Option CommandRow). HandsOutOf row.command bind_number (stored.rows Command) c.rows.cursor found c.next_row.new.cursor) c.in-None.is (read.stored clean stored refl (kept.reads.rests before stored at tt)) in
+    let ends : Left [] = subst (λ (found : Option CommandRow). HandsOutOf row.command bind_number (stored.rows Command) c.rows.cursor found c.next_row.new.cursor) c.in-None.is (read.stored clean stored refl (stored_again kept.reads.spares before stored at tt)) in
     told_of (stored_in c.args.format stored) c.args.limits command_keyed (once.command (state_of g.S.Store c.args.tables.now).now stored at.now) Left ends c.rows.replica c.rows.is_list c.replica_tables.result c.replica_tables.ensures (kept.replicated before stored at)
 
 pub rows-preserved : goal.rows-preserved
@@ -71,13 +72,13 @@ rows-preserved g c =
     let read = c.in_ok-row.ensures in
     let r = c.in-Some.row in
     record {
-      reads = answers_other _ _ _ _ (reads_on _ _ _ _ _ kept.reads read.reads);
+      reads = answers_other (then_reads kept.reads read.reads);
       valid = λ clean stored at.
-          let before = read.reads.clean clean in
-          (read.valid clean stored refl (kept.reads.rests before stored at tt) (kept.valid before stored at)).1;
+          let before = read.reads.spares.clean clean in
+          (read.valid clean stored refl (stored_again kept.reads.spares before stored at tt) (kept.valid before stored at)).1;
       replicated = λ clean stored at.
-          let before = read.reads.clean clean in
-          let then_at = kept.reads.rests before stored at tt in
+          let before = read.reads.spares.clean clean in
+          let then_at = stored_again kept.reads.spares before stored at tt in
           let Left = AreLeft row.command bind_number (stored.rows Command) c.rows.cursor in
           let Rest = AreLeft row.command bind_number (stored.rows Command) c.next_row.new.cursor in
           let hands : (left : List Row) → Rest left → Left (row.command.encode r ∷ left) = subst (λ (found : Option CommandRow). HandsOutOf row.command bind_number (stored.rows Command) c.rows.cursor found c.next_row.new.cursor) c.in-Some.is (read.stored clean stored refl then_at) in

@@ -4,14 +4,15 @@ use Rattle.wh_history.specs.Accepted.{standing}
 use Rattle.wh_admission.specs.Admission.{first_line_missing}
 use Rattle.wh_admission.proofs.SameLines.{none_missing_first, this_missing_first}
 use Rattle.wh_engine.proofs.admission.first_line_missing.Goals as goal
+use Rattle.wh_sql.proofs.Sparing.{tables_again, then_spares}
 
 pub returns-then-branch-clause-missing : goal.returns-then-branch-clause-missing
 returns-then-branch-clause-missing g c clean limits commands t are rests second =
-    let before = c.in_ok-is_line_missing.ensures.reads.clean clean in
+    let before = c.in_ok-is_line_missing.ensures.reads.spares.clean clean in
     let i = c.loop-place.place in
     let s = c.index-voids-place.result in
     let left = drop (i + 1) c.args.voids.now in
-    let missing = sym (c.in_ok-is_line_missing.ensures.missing clean limits commands t are (c.loop-place.invariant.reads.same before t rests tt) second) ∙ c.if-branch.true in
+    let missing = sym (c.in_ok-is_line_missing.ensures.missing clean limits commands t are (tables_again c.loop-place.invariant.reads.spares before t rests tt) second) ∙ c.if-branch.true in
     sym (at_drop_more (first_line_missing (standing commands) (i + 1)) c.args.voids.now i s c.loop-place-test.true ∙ ap (λ q. first_line_missing (standing commands) (i + 1) (q ∷ left)) (sym c.index-voids-place.is) ∙ this_missing_first (standing commands) (i + 1) s left missing)
     ∙ c.loop-place.invariant.passed before limits commands t are rests second
 
@@ -24,17 +25,13 @@ loop-place-preserved g c =
     let left = drop (i + 1) c.args.voids.now in
     record {
       reads = record {
-        clean = λ clean. kept.reads.clean (read.reads.clean clean);
+        spares = then_spares kept.reads.spares tt read.reads.spares;
         sound = λ clean t rests. tt;
-        same = λ clean t rests served. read.reads.same clean t (kept.reads.same (read.reads.clean clean) t rests tt) tt;
-        left = λ clean t rests. read.reads.left clean t (kept.reads.same (read.reads.clean clean) t rests tt);
-        rests = λ clean stored rests served. read.reads.rests clean stored (kept.reads.rests (read.reads.clean clean) stored rests tt) tt;
-        leaves = λ clean stored rests. read.reads.leaves clean stored (kept.reads.rests (read.reads.clean clean) stored rests tt);
         named = λ clean stored rests. tt;
       };
       passed = λ clean limits commands t are rests second.
-          let before = read.reads.clean clean in
-          let other = sym (read.missing clean limits commands t are (kept.reads.same before t rests tt) second) ∙ c.if-branch.false in
+          let before = read.reads.spares.clean clean in
+          let other = sym (read.missing clean limits commands t are (tables_again kept.reads.spares before t rests tt) second) ∙ c.if-branch.false in
           sym (at_drop_more (first_line_missing (standing commands) (i + 1)) c.args.voids.now i s c.loop-place-test.true ∙ ap (λ q. first_line_missing (standing commands) (i + 1) (q ∷ left)) (sym c.index-voids-place.is) ∙ none_missing_first (standing commands) (i + 1) s left other)
           ∙ kept.passed before limits commands t are rests second;
     }

@@ -1,4 +1,4 @@
-use Rattle.std.proofs.Common.{◌≡◌, ◌∙◌, ◌<◌, ◌≤◌, ◌+◌, ◌*◌, true, false, leb, length, None, sym, arith, refl}
+use Rattle.std.proofs.Common.{◌≡◌, ◌∙◌, ◌<◌, ◌≤◌, ◌+◌, ◌*◌, true, false, leb, length, None, sym, arith, refl, ℕ}
 use Rattle.std.proofs.lemmas.Bool.{leb-true, leb-false}
 use Rattle.wh_history.specs.Accepted.{Sells, sold}
 use Rattle.wh_admission.specs.Admission.{first_line_there}
@@ -9,6 +9,8 @@ use Rattle.wh_plan.proofs.FoundCommands.{commands_counted}
 use Rattle.wh_engine.proofs.Decisions.{no_room, line_is_there, too_many_facts, has_room}
 use Rattle.wh_engine.proofs.admission.number_for_sales.Goals as goal
 use Rattle.wh_store.proofs.Scanning.{none_is}
+use Rattle.wh_sql.proofs.Sparing.{stored_again, tables_again, then_spares}
+use Rattle.wh_engine.proofs.Scanning.{failed_after, unread_judged}
 
 pub returns-then-commands-clause-number : goal.returns-then-commands-clause-number
 returns-then-commands-clause-number g c clean t rests commands are accepted same =
@@ -17,18 +19,18 @@ returns-then-commands-clause-number g c clean t rests commands are accepted same
 
 pub returns-in-Some-clause-number : goal.returns-in-Some-clause-number
 returns-in-Some-clause-number g c clean t rests commands are accepted same =
-    let before = c.in_ok-number.ensures.reads.clean clean in
-    let still = c.in_ok-commands.ensures.reads.same before t rests tt in
+    let before = c.in_ok-number.ensures.reads.spares.clean clean in
+    let still = tables_again c.in_ok-commands.ensures.reads.spares before t rests tt in
     let number = c.in_ok-commands.ensures.count before t rests ∙ commands_counted c.args.limits commands t are in
     let room : length commands < c.args.limits.commands = omega (arith, number, c.commands.ensures, c.if-commands.false) in
     line_is_there c.args.limits commands (Sells c.args.sales.now) room refl refl c.in-Some.number (sym (c.in_ok-number.ensures.there clean c.args.limits commands t are still same accepted) ∙ c.in-Some.is)
 
 pub returns-then-not-branch-clause-number : goal.returns-then-not-branch-clause-number
 returns-then-not-branch-clause-number g c clean t rests commands are accepted same =
-    let asked = c.in_ok-has_room_for_lines.ensures.reads.clean clean in
-    let before = c.in_ok-number.ensures.reads.clean asked in
-    let still = c.in_ok-commands.ensures.reads.same before t rests tt in
-    let passed = c.in_ok-number.ensures.reads.same asked t still tt in
+    let asked = c.in_ok-has_room_for_lines.ensures.reads.spares.clean clean in
+    let before = c.in_ok-number.ensures.reads.spares.clean asked in
+    let still = tables_again c.in_ok-commands.ensures.reads.spares before t rests tt in
+    let passed = tables_again c.in_ok-number.ensures.reads.spares asked t still tt in
     let number = c.in_ok-commands.ensures.count before t rests ∙ commands_counted c.args.limits commands t are in
     let room : length commands < c.args.limits.commands = omega (arith, number, c.commands.ensures, c.if-commands.false) in
     let none = none_is _ (λ n. c.in_default.not-Some n) in
@@ -43,12 +45,12 @@ returns-then-not-branch-clause-number g c clean t rests commands are accepted sa
 
 pub returns-clause-number : goal.returns-clause-number
 returns-clause-number g c clean t rests commands are accepted same =
-    let looked = c.in_ok-number-2.ensures.reads.clean clean in
-    let asked = c.in_ok-has_room_for_lines.ensures.reads.clean looked in
-    let before = c.in_ok-number.ensures.reads.clean asked in
-    let still = c.in_ok-commands.ensures.reads.same before t rests tt in
-    let passed = c.in_ok-number.ensures.reads.same asked t still tt in
-    let there = c.in_ok-has_room_for_lines.ensures.reads.same looked t passed tt in
+    let looked = c.in_ok-number-2.ensures.reads.spares.clean clean in
+    let asked = c.in_ok-has_room_for_lines.ensures.reads.spares.clean looked in
+    let before = c.in_ok-number.ensures.reads.spares.clean asked in
+    let still = tables_again c.in_ok-commands.ensures.reads.spares before t rests tt in
+    let passed = tables_again c.in_ok-number.ensures.reads.spares asked t still tt in
+    let there = tables_again c.in_ok-has_room_for_lines.ensures.reads.spares looked t passed tt in
     let number = c.in_ok-commands.ensures.count before t rests ∙ commands_counted c.args.limits commands t are in
     let room : length commands < c.args.limits.commands = omega (arith, number, c.commands.ensures, c.if-commands.false) in
     let none = none_is _ (λ n. c.in_default.not-Some n) in
@@ -61,3 +63,35 @@ returns-clause-number g c clean t rests commands are accepted same =
     let changes : changes_kept commands + 0 ≤ c.args.limits.changes = omega (arith, accepted.changes_within) in
     let next : c.in_ok-number-2.number ≡ c.in_ok-commands.commands + 1 = c.in_ok-number-2.ensures.next clean c.args.limits commands t are there (omega (arith, number)) in
     rw (has_room c.args.limits commands (Sells c.args.sales.now) room refl refl new changes left) (omega (arith, number, next))
+
+pub returns-in_err-number-clause-reads : goal.returns-in_err-number-clause-reads
+returns-in_err-number-clause-reads g c = failed_after g.S.Store _ _ _ c.in_err-number.field-0.0 c.from_residual-in_err-number.result c.in_ok-commands.ensures.reads.spares c.in_err-number.ensures.reads c.from_residual-in_err-number.ensures
+
+pub returns-in_err-number-clause-number : goal.returns-in_err-number-clause-number
+returns-in_err-number-clause-number g c clean t rests commands are accepted same =
+    let before = c.in_err-number.ensures.reads.spares.clean clean in
+    let still = tables_again c.in_ok-commands.ensures.reads.spares before t rests tt in
+    unread_judged (λ (number next : ℕ). number ≡ next) c.from_residual-in_err-number.result _ c.in_err-number.field-0.0 c.from_residual-in_err-number.ensures (c.in_err-number.ensures.reads.sound clean t still)
+
+pub returns-in_err-has_room_for_lines-clause-reads : goal.returns-in_err-has_room_for_lines-clause-reads
+returns-in_err-has_room_for_lines-clause-reads g c = failed_after g.S.Store _ _ _ c.in_err-has_room_for_lines.field-0.0 c.from_residual-in_err-has_room_for_lines.result (then_spares c.in_ok-commands.ensures.reads.spares tt c.in_ok-number.ensures.reads.spares) c.in_err-has_room_for_lines.ensures.reads c.from_residual-in_err-has_room_for_lines.ensures
+
+pub returns-in_err-has_room_for_lines-clause-number : goal.returns-in_err-has_room_for_lines-clause-number
+returns-in_err-has_room_for_lines-clause-number g c clean t rests commands are accepted same =
+    let before = c.in_err-has_room_for_lines.ensures.reads.spares.clean clean in
+    let still = tables_again (then_spares c.in_ok-commands.ensures.reads.spares tt c.in_ok-number.ensures.reads.spares) before t rests tt in
+    unread_judged (λ (number next : ℕ). number ≡ next) c.from_residual-in_err-has_room_for_lines.result _ c.in_err-has_room_for_lines.field-0.0 c.from_residual-in_err-has_room_for_lines.ensures (c.in_err-has_room_for_lines.ensures.reads.sound clean t still)
+
+pub returns-in_err-number-2-clause-reads : goal.returns-in_err-number-2-clause-reads
+returns-in_err-number-2-clause-reads g c = failed_after g.S.Store _ _ _ c.in_err-number-2.field-0.0 c.from_residual-in_err-number-2.result (then_spares (then_spares c.in_ok-commands.ensures.reads.spares tt c.in_ok-number.ensures.reads.spares) tt c.in_ok-has_room_for_lines.ensures.reads.spares) c.in_err-number-2.ensures.reads c.from_residual-in_err-number-2.ensures
+
+pub returns-in_err-number-2-clause-number : goal.returns-in_err-number-2-clause-number
+returns-in_err-number-2-clause-number g c clean t rests commands are accepted same =
+    let before = c.in_err-number-2.ensures.reads.spares.clean clean in
+    let still = tables_again (then_spares (then_spares c.in_ok-commands.ensures.reads.spares tt c.in_ok-number.ensures.reads.spares) tt c.in_ok-has_room_for_lines.ensures.reads.spares) before t rests tt in
+    unread_judged (λ (number next : ℕ). number ≡ next) c.from_residual-in_err-number-2.result _ c.in_err-number-2.field-0.0 c.from_residual-in_err-number-2.ensures (c.in_err-number-2.ensures.reads.sound clean t still)
+
+pub returns-clause-free : goal.returns-clause-free
+returns-clause-free g c clean stored rests =
+    let before = c.in_ok-number-2.ensures.reads.spares.clean clean in
+    c.in_ok-number-2.ensures.free clean stored (stored_again (then_spares (then_spares c.in_ok-commands.ensures.reads.spares tt c.in_ok-number.ensures.reads.spares) tt c.in_ok-has_room_for_lines.ensures.reads.spares) before stored rests tt)

@@ -4,6 +4,8 @@ use Rattle.wh_records.specs.Filled.{IsFilled}
 use Rattle.wh_records.proofs.FilledParts.{still_full}
 use Rattle.wh_records.proofs.ReadMembers.{ranges_join}
 use Rattle.wh_engine.proofs.carried.fill.Goals as goal
+use Rattle.wh_sql.proofs.Sparing.{tables_again}
+use Rattle.wh_sql.proofs.InTurn.{then_failed}
 
 pub loop-after-init : goal.loop-after-init
 loop-after-init g c = record {
@@ -20,8 +22,8 @@ loop-after-preserved g c =
       reads = search rules;
       upto = search rules;
       filled = λ clean limits commands t are at admitted types attributes place is.
-          let before = read.reads.clean clean in
-          let still = kept.reads.same before t at tt in
+          let before = read.reads.spares.clean clean in
+          let still = tables_again kept.reads.spares before t at tt in
           read.filled clean limits commands t are still admitted types attributes place (kept.filled before limits commands t are at admitted types attributes place is);
     }
 
@@ -40,3 +42,6 @@ returns-clause-filled g c clean limits commands t are at admitted types attribut
     let within = c.loop-after.invariant.upto in
     let all : c.loop-after.after ≡ c.args.last = omega arith in
     subst (λ n. IsFilled attributes place (carried_between c.args.source.now.kind c.args.source.now.dim commands 0 n) c.loop-after.filling) all (c.loop-after.invariant.filled clean limits commands t are at admitted types attributes place is)
+
+pub returns-in_err-fill_between-clause-reads : goal.returns-in_err-fill_between-clause-reads
+returns-in_err-fill_between-clause-reads g c = then_failed c.loop-after.invariant.reads c.in_err-fill_between.ensures.reads c.from_residual.ensures

@@ -1,9 +1,12 @@
-use Rattle.std.proofs.Common.{◌≡◌, ◌∙◌, true, [], None, Some, sym}
+use Rattle.std.proofs.Common.{◌≡◌, ◌∙◌, true, [], None, Some, sym, ap}
+use Rattle.sqlite.specs.Effect.{Database}
 use Rattle.wh_rows.specs.Types.{is_key}
+use Rattle.wh_sql.specs.Present.{is_second_taken}
 use Rattle.wh_plan.specs.Reading.{command_with}
 use Rattle.wh_engine.proofs.Decisions.{known_answer, is_new}
 use Rattle.wh_engine.proofs.Repeating.{repeats_kept}
 use Rattle.wh_engine.proofs.decision.decide.Goals as goal
+use Rattle.wh_sql.proofs.Sparing.{spares_where, tables_again}
 
 pub returns-in-Some-clause-decided : goal.returns-in-Some-clause-decided
 returns-in-Some-clause-decided g c clean commands t held rests =
@@ -20,20 +23,14 @@ returns-in-None-clause-decided g c clean commands t held rests =
     let before = c.decide_new.ensures.reads.spares.clean clean in
     let good : is_key 40 command.id ≡ true = rw (c.as_bytes.ensures.value ∙ c.as_str.ensures) at (sym c.is_key.ensures ∙ c.if-not-is_key.false) in
     let none : command_with commands command.id ≡ None = sym (c.in_ok-row.ensures.command before limits commands t held.are rests held.accepted.distinct) ∙ c.in-None.is in
-    let still = c.in_ok-row.ensures.reads.same before t rests tt in
+    let still = tables_again c.in_ok-row.ensures.reads.spares before t rests tt in
     c.decide_new.ensures.decided clean commands t held still good (is_new limits commands command none)
 
 pub returns-in-Some-clause-reads : goal.returns-in-Some-clause-reads
 returns-in-Some-clause-reads g c =
     let reads = c.in_ok-row.ensures.reads in
     record {
-      spares = record {
-        clean = reads.clean;
-        same = λ clean t rests served. reads.same clean t rests tt;
-        left = reads.left;
-        rests = λ clean stored rests served. reads.rests clean stored rests tt;
-        leaves = reads.leaves;
-      };
+      spares = spares_where (λ _. tt) reads.spares;
       blames = λ clean stored rests. c.decide_known.ensures.blames stored;
       work = c.decide_known.ensures.work;
       taken = c.decide_known.ensures.taken _;
@@ -45,3 +42,11 @@ returns-in-Some-clause-brings g c = c.decide_known.ensures.brings c.args.session
 pub returns-in-Some-clause-again : goal.returns-in-Some-clause-again
 returns-in-Some-clause-again g c clean stored rests =
     repeats_kept stored c.args.command.now c.in-Some.row c.decide_known.result (rw c.in-Some.is at (c.in_ok-row.ensures.stored clean stored rests)) (c.decide_known.ensures.known [])
+
+-- ---- of any database
+
+pub returns-in-None-clause-untaken : goal.returns-in-None-clause-untaken
+returns-in-None-clause-untaken g c clean kind taken =
+    let before = c.decide_new.ensures.reads.spares.clean clean in
+    let still = c.in_ok-row.ensures.reads.spares.same before tt in
+    c.decide_new.ensures.untaken clean kind (ap (λ (d : Database). is_second_taken d.schema) still.now ∙ taken)

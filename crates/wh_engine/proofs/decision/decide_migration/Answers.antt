@@ -5,8 +5,9 @@ use Rattle.wh_admission.specs.Admission.{current_policy, accepted_as, answer, nu
 use Rattle.wh_engine.specs.Decided.{Decides}
 use Rattle.wh_engine.proofs.Decisions.{judged_ok, judged_err, number_refused, policy_content, command_accepted, list_accepted, own_row, policy_in_force}
 use Rattle.wh_admission.proofs.Migrated.{policy_taken}
-use Rattle.wh_engine.proofs.Scanning.{failed_after}
+use Rattle.wh_engine.proofs.Scanning.{failed_after, unread_judged}
 use Rattle.wh_engine.proofs.decision.decide_migration.Goals as goal
+use Rattle.wh_sql.proofs.Sparing.{tables_again}
 
 pub returns-clause-decided : goal.returns-clause-decided
 returns-clause-decided g c clean commands t held rests kind good new =
@@ -15,14 +16,14 @@ returns-clause-decided g c clean commands t held rests kind good new =
     let newer = c.in_ok-newer.newer in
     let number = c.in-Ok.number in
     let content = Governs newer in
-    let before = c.plan_migration.ensures.reads.clean clean in
+    let before = c.plan_migration.ensures.reads.spares.clean clean in
     let found = judged_ok (λ newer told. newer ≡ told) newer (judged_policy (current_policy commands) command.bytes) (rw (held.policy, c.as_slice.ensures) at c.in_ok-newer.ensures.read) in
     let told : judged_policy (current_policy commands) command.bytes ≡ Ok newer = found.1 ∙ ap Ok (sym found.2) in
     let taken = policy_taken (current_policy commands) command.bytes newer told in
     let read = policy_content limits commands command good new kind newer told in
     let numbered = judged_ok (λ number next. number ≡ next) number (number_for limits commands content) (c.in-Ok.ensures.number before t rests commands held.are held.accepted content refl refl refl refl) in
     let room : number_for limits commands content ≡ Ok number = numbered.1 ∙ ap Ok (sym numbered.2) in
-    let still = c.in-Ok.ensures.reads.spares.same before t rests tt in
+    let still = tables_again c.in-Ok.ensures.reads.spares before t rests tt in
     let stored = own_row limits commands command good new content read number room ∙ ap Some (sym c.in_ok-row.ensures) in
     let edits = c.in_ok-edits.ensures.edits clean limits commands t held.are still held.format (accepted_as command content) (list_accepted limits commands command good new content read number room held.accepted)
     refl (policy_in_force commands held.accepted.governed ∙ ap Some (sym held.policy)) (policies_are_sound command.bytes newer taken.written) (rw held.policy taken.fit) stored in
@@ -44,3 +45,9 @@ returns-in-Err-clause-decided g c clean commands t held rests kind good new =
 pub returns-in_err-edits-clause-reads : goal.returns-in_err-edits-clause-reads
 returns-in_err-edits-clause-reads g c =
     failed_after g.S.Store _ _ _ c.in_err-edits.field-0.0 c.from_residual-in_err-edits.result c.in-Ok.ensures.reads.spares c.in_err-edits.ensures.reads c.from_residual-in_err-edits.ensures
+
+pub returns-in_err-edits-clause-decided : goal.returns-in_err-edits-clause-decided
+returns-in_err-edits-clause-decided g c clean commands t held rests kind good new =
+    let before = c.in_err-edits.ensures.reads.spares.clean clean in
+    let still = tables_again c.in-Ok.ensures.reads.spares before t rests tt in
+    unread_judged (Decides commands c.args.command.now) c.from_residual-in_err-edits.result _ c.in_err-edits.field-0.0 c.from_residual-in_err-edits.ensures (c.in_err-edits.ensures.reads.sound clean t still)

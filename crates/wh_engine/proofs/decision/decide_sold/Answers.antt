@@ -9,6 +9,8 @@ use Rattle.wh_admission.specs.declared.command.Reply.TheVariants.{Accepted as Ac
 use Rattle.wh_engine.proofs.Decisions.{judged_ok, judged_err, number_refused, command_accepted, next_number, list_accepted, own_row, policy_in_force, sound_in_force}
 use Rattle.wh_plan.proofs.SaleBatches.SalePremises.{members_counted}
 use Rattle.wh_engine.proofs.decision.decide_sold.Goals as goal
+use Rattle.wh_sql.proofs.Sparing.{tables_again}
+use Rattle.wh_engine.proofs.Scanning.{failed_after, unread_judged}
 
 pub returns-clause-decided : goal.returns-clause-decided
 returns-clause-decided g c clean commands t held rests good new read =
@@ -16,10 +18,10 @@ returns-clause-decided g c clean commands t held rests good new read =
     let command = c.args.command.now in
     let number = c.in-Ok.number in
     let content = Sells c.args.sales.now in
-    let before = c.in_ok-edits.ensures.reads.clean clean in
+    let before = c.in_ok-edits.ensures.reads.spares.clean clean in
     let numbered = judged_ok (λ number next. number ≡ next) number (number_for limits commands content) (c.in-Ok.ensures.number before t rests commands held.are held.accepted held.format) in
     let room : number_for limits commands content ≡ Ok number = numbered.1 ∙ ap Ok (sym numbered.2) in
-    let still = c.in-Ok.ensures.reads.spares.same before t rests tt in
+    let still = tables_again c.in-Ok.ensures.reads.spares before t rests tt in
     let accepted = list_accepted limits commands command good new content read number room held.accepted in
     let next = next_number limits commands command good new content read number room in
     let after = commands ++ accepted_as command content ∷ [] in
@@ -44,3 +46,13 @@ returns-in-Err-clause-decided g c clean commands t held rests good new read =
     let judged = c.in-Err.ensures.number clean t rests commands held.are held.accepted held.format in
     judged_err (λ (number next : ℕ). number ≡ next) (Decides commands command) c.in-Err.fault (number_for limits commands content) (answer limits commands command) judged
     (λ why none. number_refused limits commands command good new content why read none)
+
+pub returns-in_err-edits-clause-decided : goal.returns-in_err-edits-clause-decided
+returns-in_err-edits-clause-decided g c clean commands t held rests good new read =
+    let before = c.in_err-edits.ensures.reads.spares.clean clean in
+    let still = tables_again c.in-Ok.ensures.reads.spares before t rests tt in
+    unread_judged (Decides commands c.args.command.now) c.from_residual-in_err-edits.result _ c.in_err-edits.field-0.0 c.from_residual-in_err-edits.ensures (c.in_err-edits.ensures.reads.sound clean t still)
+
+pub returns-in_err-edits-clause-reads : goal.returns-in_err-edits-clause-reads
+returns-in_err-edits-clause-reads g c =
+    failed_after g.S.Store _ _ _ c.in_err-edits.field-0.0 c.from_residual-in_err-edits.result c.in-Ok.ensures.reads.spares c.in_err-edits.ensures.reads c.from_residual-in_err-edits.ensures

@@ -8,19 +8,20 @@ use Rattle.wh_rows.specs.Questions.{gives_policy}
 use Rattle.wh_engine.proofs.OpenedTables.{read_of_told, rows_unread}
 use Rattle.wh_engine.proofs.OpenedStored.{unread_spares, policy_unread, policy_said, no_policy}
 use Rattle.wh_engine.proofs.opening.policy_in.Goals as goal
+use Rattle.wh_sql.proofs.Sparing.{tables_again, tables_left}
 
 pub returns-in_err-last-clause-read : goal.returns-in_err-last-clause-read
 returns-in_err-last-clause-read g c clean t rests =
     let p = err_from_is_err_and c.from_residual.result c.from_residual.ensures.1 in
     let reads = c.in_err-last.ensures.reads in
-    rw (p.1, p.2) (rows_unread t c.in_err-last.field-0.0 (of_command (last_policy_in t)) (state_of g.S.Store c.ask.new.self) (reads.sound clean t rests) (reads.same clean t rests) (reads.left clean t rests))
+    rw (p.1, p.2) (rows_unread t c.in_err-last.field-0.0 (of_command (last_policy_in t)) (state_of g.S.Store c.ask.new.self) (reads.sound clean t rests) (tables_again reads.spares clean t rests) (tables_left reads.spares clean t rests))
 
 pub returns-clause-read : goal.returns-clause-read
 returns-clause-read g c clean t rests =
     let new = state_of g.S.Store c.ask.new.self in
     let rows : c.deref.result.now ≡ part (Some last_one) (filter (λ r. gives_policy r.kind) (values t.command)) = c.deref.ensures.value ∙ c.in_ok-last.ensures.rows clean t rests in
     read_of_told c.policy_of.result (of_command (last_policy_in t)) t new
-    (subst (λ rows. IsTold c.policy_of.result (of_command (slice_get rows 0))) rows c.policy_of.ensures.told) c.policy_of.ensures.pure (c.in_ok-last.ensures.reads.same clean t rests tt)
+    (subst (λ rows. IsTold c.policy_of.result (of_command (slice_get rows 0))) rows c.policy_of.ensures.told) c.policy_of.ensures.pure (tables_again c.in_ok-last.ensures.reads.spares clean t rests tt)
 
 -- ---- of any stored rows
 

@@ -14,7 +14,7 @@ returns-in-Ok-open-clause-ready g c limits before after first second leaves clea
     let again = c.in-Ok-open.again in
     let stopped = c.close.result in
     let conn = c.in-Ok.conn in
-    let opened : HasCleanDisk (file_state conn) = c.in-Ok-open.ensures.clean clean in
+    let opened : HasCleanDisk (file_state conn) = c.in-Ok-open.ensures.spares.clean clean in
     let left : LeavesOneOf limits before after (file_state stopped) = subst (λ h. LeavesOneOf limits before after (file_state h)) (sym c.close.ensures) leaves in
     ∥∥₁_map (c.in-Ok.ensures.found opened) (λ found. elim (rests_again limits before after (file_state stopped) (file_state conn) left found) [
       | inl rests ↦ inl (c.in-Ok-open.ensures.ready clean limits before first rests)
@@ -23,7 +23,7 @@ returns-in-Ok-open-clause-ready g c limits before after first second leaves clea
 
 pub returns-in-Ok-open-clause-clean : goal.returns-in-Ok-open-clause-clean
 returns-in-Ok-open-clause-clean g c clean =
-    let opened : HasCleanDisk (file_state c.in-Ok.conn) = c.in-Ok-open.ensures.clean clean in
+    let opened : HasCleanDisk (file_state c.in-Ok.conn) = c.in-Ok-open.ensures.spares.clean clean in
     subst (λ h. HasCleanDisk (file_state h)) c.close.ensures (c.in-Ok.ensures.clean opened)
 
 pub returns-in-Err-clause-refused : goal.returns-in-Err-clause-refused
@@ -46,7 +46,7 @@ returns-in-Err-open-clause-refused g c limits before after first second leaves c
     let stopped = c.close.result in
     let conn = c.in-Ok.conn in
     let failed = c.in-Err-open.ensures in
-    let opened : HasCleanDisk (file_state conn) = failed.clean_left clean in
+    let opened : HasCleanDisk (file_state conn) = failed.spares_left.clean clean in
     let was : HasCleanDisk (file_state c.args.engine.tables.conn) = subst (λ h. HasCleanDisk (file_state h)) c.close.ensures (c.in-Ok.ensures.clean opened) in
     let left : LeavesOneOf limits before after (file_state stopped) = subst (λ h. LeavesOneOf limits before after (file_state h)) (sym c.close.ensures) (leaves was) in (
       was,
@@ -60,4 +60,4 @@ pub returns-in-Err-open-clause-refused_stored : goal.returns-in-Err-open-clause-
 returns-in-Err-open-clause-refused_stored g c stored leaves clean =
     let failed = c.in-Err-open.ensures in
     let left : LeavesStored stored (file_state c.close.result) = subst (λ h. LeavesStored stored (file_state h)) (sym c.close.ensures) leaves in
-    ∥∥₁_map (c.in-Ok.ensures.found (failed.clean_left clean)) (λ found. failed.fault_stored clean stored (found.rests_stored stored (left.each found.trees found.left)))
+    ∥∥₁_map (c.in-Ok.ensures.found (failed.spares_left.clean clean)) (λ found. failed.fault_stored clean stored (found.rests_stored stored (left.each found.trees found.left)))

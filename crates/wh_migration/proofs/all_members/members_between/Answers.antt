@@ -4,6 +4,7 @@ use Rattle.wh_history.specs.Accepted.{members, member_of}
 use Rattle.wh_history.specs.Keys.{at_place}
 use Rattle.wh_migration.proofs.AllMembers.{next_between, none_between}
 use Rattle.wh_migration.proofs.all_members.members_between.Goals as goal
+use Rattle.wh_sql.proofs.Sparing.{tables_again}
 
 pub loop-durable-init : goal.loop-durable-init
 loop-durable-init g c = record {
@@ -24,8 +25,8 @@ loop-durable-preserved g c =
       from = omega arith;
       upto = omega arith;
       members = λ clean limits commands t are at full.
-          let before = read.reads.clean clean in
-          let still = kept.reads.same before t at tt in
+          let before = read.reads.spares.clean clean in
+          let still = tables_again kept.reads.spares before t at tt in
           let further : suc c.loop-durable.durable ≡ c.loop-durable.durable + 1 = omega arith in
           let one = read.member clean limits commands t are still full ∙ ap (λ n. option_map (member_of c.args.dim commands) (at_place n (members c.args.dim commands))) (sym further) in
           c.in_ok-add_member.ensures

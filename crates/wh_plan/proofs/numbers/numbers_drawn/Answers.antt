@@ -4,12 +4,13 @@ use Rattle.wh_history.specs.Accepted.{members, anchors}
 use Rattle.wh_rows.specs.Firsts.{greatest}
 use Rattle.wh_plan.proofs.FoundAnchors.{anchors_counted}
 use Rattle.wh_plan.proofs.numbers.numbers_drawn.Goals as goal
+use Rattle.wh_sql.proofs.Sparing.{tables_again}
 
 pub returns-clause-drawn : goal.returns-clause-drawn
 returns-clause-drawn g c clean limits commands t are at members_few anchors_few =
     let dim = c.args.dim in
-    let before = c.in_ok-anchor.ensures.reads.clean clean in
-    let at_now = c.in_ok-last.ensures.reads.same before t at tt in
+    let before = c.in_ok-anchor.ensures.reads.spares.clean clean in
+    let at_now = tables_again c.in_ok-last.ensures.reads.spares before t at tt in
     let last = c.in_ok-last.ensures.last before limits commands t are at in
     let anchor = c.in_ok-anchor.ensures.anchor clean t at_now in
     let counted = anchors_counted greatest refl (λ n ns. refl) limits commands t are dim in

@@ -10,6 +10,7 @@ use Rattle.wh_history.specs.Known.{number_in, KnowsEnough}
 use Rattle.wh_plan.specs.Profiles.{with_combinations, said_by, number_kept, learned}
 use Rattle.wh_plan.proofs.PlanProfiles.{customers_known, others_known}
 use Rattle.wh_plan.proofs.profiles.known_of.Goals as goal
+use Rattle.wh_sql.proofs.Sparing.{spares_itself}
 
 pub returns-in-Customer-clause-enough : goal.returns-in-Customer-clause-enough
 returns-in-Customer-clause-enough g c clean limits commands t are at typed =
@@ -25,7 +26,7 @@ returns-in-Customer-clause-enough g c clean limits commands t are at typed =
 
 pub returns-in_default : goal.returns-in_default
 returns-in_default g c = record {
-  reads = record { clean = λ clean. clean; sound = λ clean t at. tt; same = λ clean t at calm. at; left = λ clean t at. at.left; rests = λ clean stored at calm. at; leaves = λ clean stored at. at.left; named = λ clean stored at. tt };
+  reads = record { spares = spares_itself; sound = λ clean t at. tt; named = λ clean stored at. tt };
   enough = λ clean limits commands t are at typed. subst (λ (ks : List AttributeType). AllByRecursion (KnowsEnough c.args.dim ks (number_in c.new.result) (profiles_of commands)) c.args.members.now) (sym typed.are)
       (others_known c.args.dim typed.policy typed.sound c.in_default.not-Customer (number_in c.new.result) (profiles_of commands) c.args.members.now);
 }

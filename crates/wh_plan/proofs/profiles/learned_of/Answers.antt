@@ -5,10 +5,11 @@ use Rattle.wh_history.specs.Accepted.{profiles_of}
 use Rattle.wh_history.specs.Known.{number_in, KnowsEnough}
 use Rattle.wh_plan.proofs.PlanProfiles.{others_known, others_bring_none}
 use Rattle.wh_plan.proofs.profiles.learned_of.Goals as goal
+use Rattle.wh_sql.proofs.Sparing.{spares_itself}
 
 pub returns-in_default : goal.returns-in_default
 returns-in_default g c = record {
-  reads = record { clean = λ clean. clean; sound = λ clean t at. tt; same = λ clean t at calm. at; left = λ clean t at. at.left; rests = λ clean stored at calm. at; leaves = λ clean stored at. at.left; named = λ clean stored at. tt };
+  reads = record { spares = spares_itself; sound = λ clean t at. tt; named = λ clean stored at. tt };
   learned = λ clean limits commands t are at sent accepted is typed.
       let dim = c.args.batch.now.dim in
       let after = commands ++ sent ∷ [] in

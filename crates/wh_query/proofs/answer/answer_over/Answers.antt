@@ -8,6 +8,7 @@ use Rattle.wh_query.specs.Answered.{report_fault, AnswersTables, AnswersStored, 
 use Rattle.wh_query.specs.Led.{lead_of}
 use Rattle.wh_query.proofs.Read.{read_not_counted, text_read, untold_read, fault_read, text_stored, untold_stored, fault_stored}
 use Rattle.wh_query.proofs.answer.answer_over.Goals as goal
+use Rattle.wh_sql.proofs.Sparing.{stored_again, tables_again}
 
 pub returns-in_err-filters-clause-reads : goal.returns-in_err-filters-clause-reads
 returns-in_err-filters-clause-reads g c =
@@ -39,11 +40,11 @@ returns-in_err-lines-clause-tables g c clean t at =
     let third = c.in_err-lines.ensures in
     let late = third.reads.spares.clean clean in
     let early = second.reads.spares.clean late in
-    let then_at = first.reads.spares.same early t at tt in
+    let then_at = tables_again first.reads.spares early t at tt in
     let p = err_from_is_err_and c.from_residual-in_err-lines.result c.from_residual-in_err-lines.ensures.1 in
     rw (p.1, p.2)
     (subst (λ (format : Format). AnswersTables format c.args.query.now c.args.filters.now c.args.columns.now t (Err c.in_err-lines.field-0.0)) (format_kept _ _ _ _ _ second.reads ∙ format_kept _ _ _ _ _ first.reads)
-    (fault_read _ c.args.query.now c.args.filters.now c.args.columns.now _ _ t (ap (map lead_of) c.as_slice.ensures.value ∙ first.led early t at) (ap (map lead_of) c.as_slice-2.ensures.value ∙ second.led late t then_at) _ (third.sums clean t (second.reads.spares.same late t then_at tt))))
+    (fault_read _ c.args.query.now c.args.filters.now c.args.columns.now _ _ t (ap (map lead_of) c.as_slice.ensures.value ∙ first.led early t at) (ap (map lead_of) c.as_slice-2.ensures.value ∙ second.led late t then_at) _ (third.sums clean t (tables_again second.reads.spares late t then_at tt))))
 
 pub returns-clause-tables : goal.returns-clause-tables
 returns-clause-tables g c clean t at =
@@ -52,11 +53,11 @@ returns-clause-tables g c clean t at =
     let third = c.in_ok-lines.ensures in
     let late = third.reads.spares.clean clean in
     let early = second.reads.spares.clean late in
-    let then_at = first.reads.spares.same early t at tt in
+    let then_at = tables_again first.reads.spares early t at tt in
     let same = format_kept _ _ _ _ _ second.reads ∙ format_kept _ _ _ _ _ first.reads in
     rw (c.report_fault.ensures ∙ ap (λ (format : Format). report_fault format c.in-Err.fault) c.format-format.ensures)
     (subst (λ (format : Format). AnswersTables format c.args.query.now c.args.filters.now c.args.columns.now t (Err (report_fault format c.in-Err.fault))) same
-    (untold_read _ c.args.query.now c.args.filters.now c.args.columns.now _ _ t (ap (map lead_of) c.as_slice.ensures.value ∙ first.led early t at) (ap (map lead_of) c.as_slice-2.ensures.value ∙ second.led late t then_at) _ c.in-Err.fault c.in-Err.ensures.untold (third.sums clean t (second.reads.spares.same late t then_at tt))))
+    (untold_read _ c.args.query.now c.args.filters.now c.args.columns.now _ _ t (ap (map lead_of) c.as_slice.ensures.value ∙ first.led early t at) (ap (map lead_of) c.as_slice-2.ensures.value ∙ second.led late t then_at) _ c.in-Err.fault c.in-Err.ensures.untold (third.sums clean t (tables_again second.reads.spares late t then_at tt))))
 
 pub returns-in-Ok-clause-tables : goal.returns-in-Ok-clause-tables
 returns-in-Ok-clause-tables g c clean t at =
@@ -65,9 +66,9 @@ returns-in-Ok-clause-tables g c clean t at =
     let third = c.in_ok-lines.ensures in
     let late = third.reads.spares.clean clean in
     let early = second.reads.spares.clean late in
-    let then_at = first.reads.spares.same early t at tt in
+    let then_at = tables_again first.reads.spares early t at tt in
     subst (λ (format : Format). AnswersTables format c.args.query.now c.args.filters.now c.args.columns.now t (Ok c.in-Ok.text)) (format_kept _ _ _ _ _ second.reads ∙ format_kept _ _ _ _ _ first.reads)
-    (text_read _ c.args.query.now c.args.filters.now c.args.columns.now _ _ t (ap (map lead_of) c.as_slice.ensures.value ∙ first.led early t at) (ap (map lead_of) c.as_slice-2.ensures.value ∙ second.led late t then_at) _ c.in-Ok.text c.in-Ok.ensures.text (third.sums clean t (second.reads.spares.same late t then_at tt)))
+    (text_read _ c.args.query.now c.args.filters.now c.args.columns.now _ _ t (ap (map lead_of) c.as_slice.ensures.value ∙ first.led early t at) (ap (map lead_of) c.as_slice-2.ensures.value ∙ second.led late t then_at) _ c.in-Ok.text c.in-Ok.ensures.text (third.sums clean t (tables_again second.reads.spares late t then_at tt)))
 
 pub returns-in_err-lines-clause-stored : goal.returns-in_err-lines-clause-stored
 returns-in_err-lines-clause-stored g c clean stored on =
@@ -76,11 +77,11 @@ returns-in_err-lines-clause-stored g c clean stored on =
     let third = c.in_err-lines.ensures in
     let late = third.reads.spares.clean clean in
     let early = second.reads.spares.clean late in
-    let then_on = first.reads.spares.rests early stored on tt in
+    let then_on = stored_again first.reads.spares early stored on tt in
     let p = err_from_is_err_and c.from_residual-in_err-lines.result c.from_residual-in_err-lines.ensures.1 in
     rw (p.1, p.2)
     (subst (λ (format : Format). AnswersStored format c.args.query.now c.args.filters.now c.args.columns.now stored (Err c.in_err-lines.field-0.0)) (format_kept _ _ _ _ _ second.reads ∙ format_kept _ _ _ _ _ first.reads)
-    (fault_stored _ c.args.query.now c.args.filters.now c.args.columns.now _ _ stored (subst (AreLeads stored c.args.filters.now) (sym (ap (map lead_of) c.as_slice.ensures.value)) (first.stored early stored on)) (subst (AreLeads stored c.args.columns.now) (sym (ap (map lead_of) c.as_slice-2.ensures.value)) (second.stored late stored then_on)) _ (third.stored clean stored (second.reads.spares.rests late stored then_on tt))))
+    (fault_stored _ c.args.query.now c.args.filters.now c.args.columns.now _ _ stored (subst (AreLeads stored c.args.filters.now) (sym (ap (map lead_of) c.as_slice.ensures.value)) (first.stored early stored on)) (subst (AreLeads stored c.args.columns.now) (sym (ap (map lead_of) c.as_slice-2.ensures.value)) (second.stored late stored then_on)) _ (third.stored clean stored (stored_again second.reads.spares late stored then_on tt))))
 
 pub returns-clause-stored : goal.returns-clause-stored
 returns-clause-stored g c clean stored on =
@@ -89,11 +90,11 @@ returns-clause-stored g c clean stored on =
     let third = c.in_ok-lines.ensures in
     let late = third.reads.spares.clean clean in
     let early = second.reads.spares.clean late in
-    let then_on = first.reads.spares.rests early stored on tt in
+    let then_on = stored_again first.reads.spares early stored on tt in
     let same = format_kept _ _ _ _ _ second.reads ∙ format_kept _ _ _ _ _ first.reads in
     rw (c.report_fault.ensures ∙ ap (λ (format : Format). report_fault format c.in-Err.fault) c.format-format.ensures)
     (subst (λ (format : Format). AnswersStored format c.args.query.now c.args.filters.now c.args.columns.now stored (Err (report_fault format c.in-Err.fault))) same
-    (untold_stored _ c.args.query.now c.args.filters.now c.args.columns.now _ _ stored (subst (AreLeads stored c.args.filters.now) (sym (ap (map lead_of) c.as_slice.ensures.value)) (first.stored early stored on)) (subst (AreLeads stored c.args.columns.now) (sym (ap (map lead_of) c.as_slice-2.ensures.value)) (second.stored late stored then_on)) _ c.in-Err.fault c.in-Err.ensures.untold (third.stored clean stored (second.reads.spares.rests late stored then_on tt))))
+    (untold_stored _ c.args.query.now c.args.filters.now c.args.columns.now _ _ stored (subst (AreLeads stored c.args.filters.now) (sym (ap (map lead_of) c.as_slice.ensures.value)) (first.stored early stored on)) (subst (AreLeads stored c.args.columns.now) (sym (ap (map lead_of) c.as_slice-2.ensures.value)) (second.stored late stored then_on)) _ c.in-Err.fault c.in-Err.ensures.untold (third.stored clean stored (stored_again second.reads.spares late stored then_on tt))))
 
 pub returns-in-Ok-clause-stored : goal.returns-in-Ok-clause-stored
 returns-in-Ok-clause-stored g c clean stored on =
@@ -102,6 +103,6 @@ returns-in-Ok-clause-stored g c clean stored on =
     let third = c.in_ok-lines.ensures in
     let late = third.reads.spares.clean clean in
     let early = second.reads.spares.clean late in
-    let then_on = first.reads.spares.rests early stored on tt in
+    let then_on = stored_again first.reads.spares early stored on tt in
     subst (λ (format : Format). AnswersStored format c.args.query.now c.args.filters.now c.args.columns.now stored (Ok c.in-Ok.text)) (format_kept _ _ _ _ _ second.reads ∙ format_kept _ _ _ _ _ first.reads)
-    (text_stored _ c.args.query.now c.args.filters.now c.args.columns.now _ _ stored (subst (AreLeads stored c.args.filters.now) (sym (ap (map lead_of) c.as_slice.ensures.value)) (first.stored early stored on)) (subst (AreLeads stored c.args.columns.now) (sym (ap (map lead_of) c.as_slice-2.ensures.value)) (second.stored late stored then_on)) _ c.in-Ok.text c.in-Ok.ensures.text (third.stored clean stored (second.reads.spares.rests late stored then_on tt)))
+    (text_stored _ c.args.query.now c.args.filters.now c.args.columns.now _ _ stored (subst (AreLeads stored c.args.filters.now) (sym (ap (map lead_of) c.as_slice.ensures.value)) (first.stored early stored on)) (subst (AreLeads stored c.args.columns.now) (sym (ap (map lead_of) c.as_slice-2.ensures.value)) (second.stored late stored then_on)) _ c.in-Ok.text c.in-Ok.ensures.text (third.stored clean stored (stored_again second.reads.spares late stored then_on tt)))

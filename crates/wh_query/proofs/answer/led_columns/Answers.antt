@@ -5,6 +5,7 @@ use Rattle.wh_report.proofs.EngineReading.{unread, and_then, answered, faulted}
 use Rattle.wh_query.specs.Answered.{lead_in}
 use Rattle.wh_query.proofs.Read.{led_more, stored_more}
 use Rattle.wh_query.proofs.answer.led_columns.Goals as goal
+use Rattle.wh_sql.proofs.Sparing.{stored_again, tables_again}
 
 pub columns-init : goal.columns-init
 columns-init g c = record {
@@ -23,10 +24,10 @@ columns-preserved g c =
       writes = read.writes ∙ kept.writes;
       led = λ clean t at.
           let before = read.reads.spares.clean clean in
-          led_more t c.columns.leds.items c.push_led.new.leds.items (take c.columns.column-index c.args.columns.now) _ _ c.in_ok-labels.labels c.in_ok-push_led.ensures (take_more c.args.columns.now c.columns.column-index _ c.columns-test.true) (kept.led before t at) (read.labels clean t (kept.reads.spares.same before t at tt));
+          led_more t c.columns.leds.items c.push_led.new.leds.items (take c.columns.column-index c.args.columns.now) _ _ c.in_ok-labels.labels c.in_ok-push_led.ensures (take_more c.args.columns.now c.columns.column-index _ c.columns-test.true) (kept.led before t at) (read.labels clean t (tables_again kept.reads.spares before t at tt));
       stored = λ clean stored on.
           let before = read.reads.spares.clean clean in
-          stored_more stored c.columns.leds.items c.push_led.new.leds.items (take c.columns.column-index c.args.columns.now) _ _ c.in_ok-labels.labels c.in_ok-push_led.ensures (take_more c.args.columns.now c.columns.column-index _ c.columns-test.true) (kept.stored before stored on) (read.stored clean stored (kept.reads.spares.rests before stored on tt));
+          stored_more stored c.columns.leds.items c.push_led.new.leds.items (take c.columns.column-index c.args.columns.now) _ _ c.in_ok-labels.labels c.in_ok-push_led.ensures (take_more c.args.columns.now c.columns.column-index _ c.columns-test.true) (kept.stored before stored on) (read.stored clean stored (stored_again kept.reads.spares before stored on tt));
     }
 
 pub returns-in_err-labels-clause-reads : goal.returns-in_err-labels-clause-reads

@@ -9,6 +9,7 @@ use Rattle.wh_report.proofs.Arranged.{seen_none, none_ahead, made_more, made_all
 use Rattle.wh_report.proofs.HandedRows.{none_seen, one_seen, all_seen, no_labels}
 use Rattle.wh_report.proofs.Outputs.{row_handed, none_handed}
 use Rattle.wh_report.proofs.column_labels.labels_of_profiles.Goals as goal
+use Rattle.wh_sql.proofs.Sparing.{stored_again, tables_again}
 
 pub profiles-init : goal.profiles-init
 profiles-init g c = record {
@@ -27,10 +28,10 @@ profiles-preserved g c =
       writes = read.reads.writes ∙ kept.writes;
       labels = λ clean t at.
           let before = read.reads.spares.clean clean in
-          one_seen _ _ c.in-Some.row _ _ _ (row_handed _ _ _ c.in-Some.row c.in-Some.is (read.hands.rows clean t refl (kept.reads.spares.same before t at tt))) (kept.labels before t at) (λ done made. c.in_ok-add_profile-in-Some.ensures done made);
+          one_seen _ _ c.in-Some.row _ _ _ (row_handed _ _ _ c.in-Some.row c.in-Some.is (read.hands.rows clean t refl (tables_again kept.reads.spares before t at tt))) (kept.labels before t at) (λ done made. c.in_ok-add_profile-in-Some.ensures done made);
       stored = λ clean stored on.
           let before = read.reads.spares.clean clean in
-          let rests = kept.reads.spares.rests before stored on tt in
+          let rests = stored_again kept.reads.spares before stored on tt in
           made_more row.profile bind_number (stored.rows table.Profile) _ _ _ _ c.in-Some.row _ _ _ _ _ c.in-Some.is (kept.stored before stored on) (read.hands.valid clean stored refl rests) (read.hands.stored clean stored refl rests) (λ done made. c.in_ok-add_profile-in-Some.ensures done made);
     }
 
@@ -42,14 +43,14 @@ returns-in-None-clause-labels g c clean t at =
     let kept = c.profiles.invariant in
     let read = c.in_ok-row.ensures in
     let before = read.reads.spares.clean clean in
-    all_seen _ _ _ (none_handed _ _ _ c.in-None.is (read.hands.rows clean t refl (kept.reads.spares.same before t at tt))) (kept.labels before t at)
+    all_seen _ _ _ (none_handed _ _ _ c.in-None.is (read.hands.rows clean t refl (tables_again kept.reads.spares before t at tt))) (kept.labels before t at)
 
 pub returns-in-None-clause-stored : goal.returns-in-None-clause-stored
 returns-in-None-clause-stored g c clean stored on =
     let kept = c.profiles.invariant in
     let read = c.in_ok-row.ensures in
     let before = read.reads.spares.clean clean in
-    let rests = kept.reads.spares.rests before stored on tt in
+    let rests = stored_again kept.reads.spares before stored on tt in
     made_all row.profile bind_number (stored.rows table.Profile) _ _ _ _ _ _ _ c.in-None.is (kept.stored before stored on) (read.hands.stored clean stored refl rests)
 
 pub returns-in_err-row-clause-reads : goal.returns-in_err-row-clause-reads

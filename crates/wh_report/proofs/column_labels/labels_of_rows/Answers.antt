@@ -9,6 +9,7 @@ use Rattle.wh_report.proofs.Arranged.{seen_none, none_ahead, made_more, made_all
 use Rattle.wh_report.proofs.HandedRows.{none_seen, one_seen, all_seen, no_labels, all_left}
 use Rattle.wh_report.proofs.Outputs.{row_handed, none_handed}
 use Rattle.wh_report.proofs.column_labels.labels_of_rows.Goals as goal
+use Rattle.wh_sql.proofs.Sparing.{stored_again, tables_again}
 
 pub rows-init : goal.rows-init
 rows-init g c = record {
@@ -27,10 +28,10 @@ rows-preserved g c =
       writes = read.reads.writes ∙ kept.writes;
       labels = λ clean t at.
           let before = read.reads.spares.clean clean in
-          one_seen _ _ c.in-Some.row _ _ _ (row_handed _ _ _ c.in-Some.row c.in-Some.is (read.rows clean t (kept.reads.spares.same before t at tt))) (kept.labels before t at) (λ done made. c.in_ok-add_row-in-Some.ensures done made);
+          one_seen _ _ c.in-Some.row _ _ _ (row_handed _ _ _ c.in-Some.row c.in-Some.is (read.rows clean t (tables_again kept.reads.spares before t at tt))) (kept.labels before t at) (λ done made. c.in_ok-add_row-in-Some.ensures done made);
       stored = λ clean stored on.
           let before = read.reads.spares.clean clean in
-          let rests = kept.reads.spares.rests before stored on tt in
+          let rests = stored_again kept.reads.spares before stored on tt in
           made_more (layout_of_dim c.args.dim) bind_number (stored.rows (table_of_dim c.args.dim)) _ _ _ _ c.in-Some.row _ _ _ _ _ c.in-Some.is (kept.stored before stored on) (read.valid clean stored rests) (read.stored clean stored rests) (λ done made. c.in_ok-add_row-in-Some.ensures done made);
     }
 
@@ -42,14 +43,14 @@ returns-in-None-clause-labels g c clean t at =
     let kept = c.rows.invariant in
     let read = c.in_ok-row.ensures in
     let before = read.reads.spares.clean clean in
-    all_seen _ _ _ (none_handed _ _ _ c.in-None.is (read.rows clean t (kept.reads.spares.same before t at tt))) (kept.labels before t at)
+    all_seen _ _ _ (none_handed _ _ _ c.in-None.is (read.rows clean t (tables_again kept.reads.spares before t at tt))) (kept.labels before t at)
 
 pub returns-in-None-clause-stored : goal.returns-in-None-clause-stored
 returns-in-None-clause-stored g c clean stored on =
     let kept = c.rows.invariant in
     let read = c.in_ok-row.ensures in
     let before = read.reads.spares.clean clean in
-    let rests = kept.reads.spares.rests before stored on tt in
+    let rests = stored_again kept.reads.spares before stored on tt in
     made_all (layout_of_dim c.args.dim) bind_number (stored.rows (table_of_dim c.args.dim)) _ _ _ _ _ _ _ c.in-None.is (kept.stored before stored on) (read.stored clean stored rests)
 
 pub returns-in_err-row-clause-reads : goal.returns-in_err-row-clause-reads

@@ -11,6 +11,7 @@ use Rattle.wh_report.proofs.EngineReading.{through, unread, and_then, faulted, h
 use Rattle.wh_report.proofs.Outputs.{row_handed, none_handed}
 use Rattle.wh_report.proofs.Parts.{begun, row_added, row_not_added, last_out, stopped, one_more, told_fault, told_dump, names_none, named_none, named_before, read_to_end, lines_for}
 use Rattle.wh_report.proofs.dumps.write_rows.Goals as goal
+use Rattle.wh_sql.proofs.Sparing.{stored_again, tables_again}
 
 pub rows-init : goal.rows-init
 rows-init g c =
@@ -42,11 +43,11 @@ rows-preserved g c =
             going = row_added (header_line layout) (row_line layout) _ _ _ _ _ it.done row c.in_ok-write_row-in-Ok-Some.field-0 it.going (c.in_ok-write_row-in-Ok-Some.ensures.out it.going.rest it.going.gathered);
             typed = λ clean t same at.
                 let before = read.reads.spares.clean clean in
-                one_more it.done _ _ _ row (row_handed _ _ _ row c.in-Ok-Some.field-0-is (read.hands.rows clean t (same ∙ sym (ap (λ (s : Session). is_there g.T.KeyedTable.name s.format) kept.reads.noted)) (kept.reads.spares.same before t at tt))) (it.typed before t same at);
+                one_more it.done _ _ _ row (row_handed _ _ _ row c.in-Ok-Some.field-0-is (read.hands.rows clean t (same ∙ sym (ap (λ (s : Session). is_there g.T.KeyedTable.name s.format) kept.reads.noted)) (tables_again kept.reads.spares before t at tt))) (it.typed before t same at);
             stored = λ clean stored same on.
                 let before = read.reads.spares.clean clean in
                 let there = same ∙ sym (ap (λ (s : Session). is_there g.T.KeyedTable.name s.format) kept.reads.noted) in
-                let rests = kept.reads.spares.rests before stored on tt in
+                let rests = stored_again kept.reads.spares before stored on tt in
                 let seen = it.stored before stored same on in
                 let good = valid_hands _ _ _ row c.in-Ok-Some.field-0-is (read.hands.valid clean stored there rests seen.1) in
                 (seen_one layout (stored.rows g.T.KeyedTable.name) _ _ it.done row seen.0 good.0 (row_hands layout g.T.KeyedTable.bind (stored.rows g.T.KeyedTable.name) _ _ _ _ row _ c.in-Ok-Some.field-0-is (read.hands.stored clean stored there rests)), good.1);
@@ -67,7 +68,7 @@ returns-in_err-write_row-in-Ok-Some-clause-out g c gathered unflagged clean t sa
     let failed = c.in_err-write_row-in-Ok-Some in
     let before = read.reads.spares.clean clean in
     let it = kept.gone gathered in
-    let left = row_handed _ _ _ c.in-Ok-Some.row c.in-Ok-Some.field-0-is (read.hands.rows clean t (same ∙ sym (ap (λ (s : Session). is_there g.T.KeyedTable.name s.format) kept.reads.noted)) (kept.reads.spares.same before t at tt)) in
+    let left = row_handed _ _ _ c.in-Ok-Some.row c.in-Ok-Some.field-0-is (read.hands.rows clean t (same ∙ sym (ap (λ (s : Session). is_there g.T.KeyedTable.name s.format) kept.reads.noted)) (tables_again kept.reads.spares before t at tt)) in
     let all = ap (λ rows. it.done ++ rows) (sym left) ∙ it.typed before t same at in
     let p = err_from_is_err_and c.from_residual.result c.from_residual.ensures.1 in
     rw (p.1, p.2) (lines_for (header_line layout) (row_line layout) (Err failed.field-0.0) (g.W.Write.contents c.args.out.now) (g.W.Write.contents c.write_row.new.out) _ _ all
@@ -83,7 +84,7 @@ returns-in_err-write_row-in-Ok-Some-clause-stored g c gathered unflagged clean s
     let row = c.in-Ok-Some.row in
     let before = read.reads.spares.clean clean in
     let there = same ∙ sym (ap (λ (s : Session). is_there g.T.KeyedTable.name s.format) kept.reads.noted) in
-    let rests = kept.reads.spares.rests before stored on tt in
+    let rests = stored_again kept.reads.spares before stored on tt in
     let it = kept.gone gathered in
     let seen = it.stored before stored same on in
     let good = valid_hands _ _ _ row c.in-Ok-Some.field-0-is (read.hands.valid clean stored there rests seen.1) in
@@ -107,7 +108,7 @@ returns-in-Ok-None-clause-out g c gathered unflagged clean t same at =
     let read = c.in-Ok-None.ensures in
     let before = read.reads.spares.clean clean in
     let it = kept.gone gathered in
-    let none = none_handed _ _ _ c.in-Ok-None.field-0-is (read.hands.rows clean t (same ∙ sym (ap (λ (s : Session). is_there g.T.KeyedTable.name s.format) kept.reads.noted)) (kept.reads.spares.same before t at tt)) in
+    let none = none_handed _ _ _ c.in-Ok-None.field-0-is (read.hands.rows clean t (same ∙ sym (ap (λ (s : Session). is_there g.T.KeyedTable.name s.format) kept.reads.noted)) (tables_again kept.reads.spares before t at tt)) in
     let all = sym (append-nil it.done) ∙ ap (λ rows. it.done ++ rows) (sym none) ∙ it.typed before t same at in
     lines_for (header_line layout) (row_line layout) _ _ _ _ _ all
     (last_out (header_line layout) (row_line layout) _ _ _ _ it.done c.go_out.result it.going (subst (IsOutWhole c.go_out.result _ _) it.going.gathered.lines c.go_out.ensures.out))
@@ -120,7 +121,7 @@ returns-in-Ok-None-clause-stored g c gathered unflagged clean stored same on =
     let read = c.in-Ok-None.ensures in
     let before = read.reads.spares.clean clean in
     let there = same ∙ sym (ap (λ (s : Session). is_there g.T.KeyedTable.name s.format) kept.reads.noted) in
-    let rests = kept.reads.spares.rests before stored on tt in
+    let rests = stored_again kept.reads.spares before stored on tt in
     let it = kept.gone gathered in
     let seen = it.stored before stored same on in
     record {
@@ -159,7 +160,7 @@ returns-in-Err-clause-stored g c gathered unflagged clean stored same on =
       out = lines_for (header_line layout) (row_line layout) (Err c.go_out_before.result) (g.W.Write.contents c.args.out.now) (g.W.Write.contents c.go_out_before.new.out) _ _ (append-nil it.done)
           (stopped (header_line layout) (row_line layout) _ _ _ _ it.done [] c.in-Err.fault c.go_out_before.result it.going (never_reopen _ _ c.in-Err.fault unflagged kept.reads.noted (λ is. read.reads.shuts.only (ap Err is)))
           (subst (IsOutBefore c.in-Err.fault c.go_out_before.result _ _) it.going.gathered.lines c.go_out_before.ensures));
-      named = named_before g.T.KeyedTable.name c.in-Err.fault c.go_out_before.result _ _ _ c.go_out_before.ensures (read.hands.named clean stored (kept.reads.spares.rests before stored on tt));
+      named = named_before g.T.KeyedTable.name c.in-Err.fault c.go_out_before.result _ _ _ c.go_out_before.ensures (read.hands.named clean stored (stored_again kept.reads.spares before stored on tt));
     }
 
 pub returns-in-Err-clause-kinds : goal.returns-in-Err-clause-kinds

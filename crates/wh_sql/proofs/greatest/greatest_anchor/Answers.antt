@@ -58,7 +58,7 @@ pub returns-clause-reads : goal.returns-clause-reads
 returns-clause-reads g c =
     let it = asked c.args.dim (state g.S.Store c.args.conn.now) (state g.S.Store c.rows_shown.new.conn) in
     let here = c.in_ok-rows.ensures.reads it.quiet (λ clean t at. tt) (λ clean stored at. tt) in
-    record { clean = here.clean; sound = λ clean t at. tt; same = here.same; left = here.left; rests = here.rests; leaves = here.leaves; named = λ clean stored at. tt }
+    record { spares = here.spares; sound = λ clean t at. tt; named = λ clean stored at. tt }
 
 -- ---- of any stored rows
 

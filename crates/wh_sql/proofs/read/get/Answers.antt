@@ -47,7 +47,7 @@ pub returns-clause-reads : goal.returns-clause-reads
 returns-clause-reads g c =
     let reads = rw c.statements.ensures.3 at c.in_ok-rows.ensures.reads in
     let here = reads (some_quiet g.T.KeyedTable.name g.T.StoredTable.layout (g.T.KeyedTable.bind c.args.key.now) (λ row. eq_by_cmp g.T.StoredTable.layout.order c.args.key.now (g.T.StoredTable.layout.key row)) g.T.KeyedTable.texts.get (λ format. g.met.T.KeyedTable.finds format c.args.key.now)) (λ clean t at. tt) (λ clean stored at. tt) in
-    record { clean = here.clean; sound = λ clean t at. tt; same = here.same; left = here.left; rests = here.rests; leaves = here.leaves; named = λ clean stored at. tt }
+    record { spares = here.spares; sound = λ clean t at. tt; named = λ clean stored at. tt }
 
 -- ---- of any stored rows
 

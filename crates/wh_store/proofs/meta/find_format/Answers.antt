@@ -1,13 +1,14 @@
 use Rattle.std.proofs.Common.{◌≡◌, ◌≤◌, Bool, ℤ, Option, Result, Ok, Err, IfOk, IfErr, sym, subst, ap, codes, ◌∙◌}
 use Rattle.sqlite.specs.State.{State}
 use Rattle.wh_policy.specs.declared.format.Format.{Format}
+use Rattle.wh_policy.specs.declared.format.Format.TheVariants.{One}
 use Rattle.wh_rows.specs.Tables.{Tables}
 use Rattle.wh_store.specs.declared.fault.OpenFault.{OpenFault}
 use Rattle.wh_store.specs.declared.fault.OpenFault.TheVariants.{NotAWarehouse, OldFormat, NewFormat, Memory, Damaged, Store}
 use Rattle.wh_store.specs.Meta.{format_of, number_in}
 use Rattle.wh_store.specs.Opening.{IsTaken, IsRefusedWith}
 use Rattle.wh_policy.specs.Formats.{format_number}
-use Rattle.wh_store.proofs.FormatFaults.{of_format, is_known}
+use Rattle.wh_store.proofs.FormatFaults.{of_format, is_known, is_single}
 use Rattle.wh_store.proofs.meta.find_format.Goals as goal
 
 module _ (newest : Format) (second : Bool) (number : Option ℤ) (t : Tables) (same : number ≡ number_in t (codes "format")) where
@@ -32,3 +33,7 @@ returns-in-Ok-clause-known g c = subst (λ told. IfOk told (λ format. format_nu
 
 pub returns-in-Ok-clause-refused : goal.returns-in-Ok-clause-refused
 returns-in-Ok-clause-refused g c clean t at = refused c.args.newest c.args.second _ t (c.in-Ok.ensures.number clean t at) _ _ c.format_of.result c.format_of.ensures
+
+pub returns-in-Ok-clause-single : goal.returns-in-Ok-clause-single
+returns-in-Ok-clause-single g c none =
+    subst (λ told. IfOk told (λ format. format ≡ One)) (sym (c.format_of.ensures ∙ ap (λ second. format_of c.args.newest second c.in-Ok.number) none)) (is_single c.args.newest c.in-Ok.number)

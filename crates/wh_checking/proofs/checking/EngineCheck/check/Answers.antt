@@ -7,6 +7,7 @@ use Rattle.wh_checking.specs.Checked.{IsChecked}
 use Rattle.wh_checking.proofs.SoundTables.{checked, covers}
 use Rattle.wh_engine.proofs.Scanning.{read, shut}
 use Rattle.wh_checking.proofs.checking.EngineCheck.check.Goals as goal
+use Rattle.wh_sql.proofs.Sparing.{tables_again, tables_left}
 
 pub returns-then-must_reopen-clause-reads : goal.returns-then-must_reopen-clause-reads
 returns-then-must_reopen-clause-reads g c = shut g.S.Store c.args.self.now (sym c.must_reopen.ensures ∙ c.if-must_reopen.true)
@@ -22,4 +23,4 @@ returns-clause-sound g c = rw c.note.ensures (λ clean limits commands ready.
     let rests = ready.rests.rests in
     let judged = c.check_tables-verdict.ensures.checked clean (stored_of t) (rests_on t old rests) (rw c.format-format.ensures (covers limits commands c.args.self.now.session old new ready)) in
     checked limits commands c.args.self.now.session old new ready c.check_tables-verdict.result
-    (subst (λ format. IsChecked (stored_in format (stored_of t)) c.check_tables-verdict.result) c.format-format.ensures judged) (c.check_tables-verdict.ensures.reads.spares.same clean t rests) (c.check_tables-verdict.ensures.reads.spares.left clean t rests))
+    (subst (λ format. IsChecked (stored_in format (stored_of t)) c.check_tables-verdict.result) c.format-format.ensures judged) (tables_again c.check_tables-verdict.ensures.reads.spares clean t rests) (tables_left c.check_tables-verdict.ensures.reads.spares clean t rests))

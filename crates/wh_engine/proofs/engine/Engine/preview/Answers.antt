@@ -2,6 +2,7 @@ use Rattle.sqlite.specs.Held.{state}
 use Rattle.wh_engine.proofs.Previewing.{held_then, previewed}
 use Rattle.wh_engine.proofs.Scanning.{read, shut}
 use Rattle.wh_engine.proofs.engine.Engine.preview.Goals as goal
+use Rattle.wh_sql.proofs.Sparing.{tables_again, tables_left}
 
 pub returns-then-self-clause-reads : goal.returns-then-self-clause-reads
 returns-then-self-clause-reads g c = shut g.S.Store c.args.self.now c.if-self.true
@@ -19,4 +20,4 @@ returns-clause-previewed g c clean limits commands ready =
     let t = ready.rests.tables in
     let rests = ready.rests.rests in
     let foreseen = c.preview_anew-preview.ensures.previewed clean commands t (held_then limits commands session old new ready kind bytes) rests in
-    rw c.stops-self.ensures (previewed limits commands session old new ready kind bytes c.preview_anew-preview.result foreseen (c.preview_anew-preview.ensures.reads.spares.same clean t rests) (c.preview_anew-preview.ensures.reads.spares.left clean t rests))
+    rw c.stops-self.ensures (previewed limits commands session old new ready kind bytes c.preview_anew-preview.result foreseen (tables_again c.preview_anew-preview.ensures.reads.spares clean t rests) (tables_left c.preview_anew-preview.ensures.reads.spares clean t rests))

@@ -9,16 +9,18 @@ use Rattle.wh_model.specs.Sound.{AreTypes}
 use Rattle.wh_model.proofs.Formatted.{format_stays}
 use Rattle.wh_plan.proofs.PlanPremises.{days_before, days_after}
 use Rattle.wh_plan.proofs.records.record_plan.plan_batch.Goals as goal
+use Rattle.wh_sql.proofs.Sparing.{tables_again}
+use Rattle.wh_sql.proofs.InTurn.{then_failed, then_reads}
 
 pub returns-clause-edits : goal.returns-clause-edits
 returns-clause-edits g c clean limits commands t are at format sent accepted is governed sound command_is =
     let dim = c.args.dim in
     let after = commands ++ sent ∷ [] in
-    let second = c.in_ok-facts.ensures.reads.clean clean in
-    let first = c.in_ok-learned.ensures.reads.clean second in
+    let second = c.in_ok-facts.ensures.reads.spares.clean clean in
+    let first = c.in_ok-learned.ensures.reads.spares.clean second in
     let found = c.in_ok-found.ensures.found first limits commands t are at sent accepted is in
-    let at_first = c.in_ok-found.ensures.reads.same first t at tt in
-    let at_second = c.in_ok-learned.ensures.reads.same second t at_first tt in
+    let at_first = tables_again c.in_ok-found.ensures.reads.spares first t at tt in
+    let at_second = tables_again c.in_ok-learned.ensures.reads.spares second t at_first tt in
     let touched = c.in_ok-touched.ensures dim commands sent is (c.deref-2.ensures.value ∙ found.members_read) found.members_drawn found.anchors_drawn in
     let list = c.as_slice-after.ensures ∙ ap (λ t. t.list) touched in
     let typed : AreTypes commands dim c.deref.result.now = record { policy = c.args.terms.now.policy.now; governed = governed; sound = sound; are = c.deref.ensures.value ∙ c.in_ok-types.ensures } in
@@ -29,3 +31,6 @@ returns-clause-edits g c clean limits commands t are at format sent accepted is 
     let rows = c.in_ok-rows.ensures commands sent is typed_now (days_before limits commands sent accepted) (days_after limits commands sent accepted) command_is
     (record { found = found; touched = list; enough = enough; profiles = learned.fresh; facts = facts.0; rekeyed = facts.1 }) in
     c.in_ok-edits_of_batch.ensures.exact commands sent format (format_stays commands sent (ap (formatted One) is)) (ap governs is) (ap withdrawn_by is) rows
+
+pub returns-in_err-facts-clause-reads : goal.returns-in_err-facts-clause-reads
+returns-in_err-facts-clause-reads g c = then_failed (then_reads c.in_ok-found.ensures.reads c.in_ok-learned.ensures.reads) c.in_err-facts.ensures.reads c.from_residual-in_err-facts.ensures

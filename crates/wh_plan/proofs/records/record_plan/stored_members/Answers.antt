@@ -3,6 +3,7 @@ use Rattle.std.proofs.lemmas.List.{map-append, take_all}
 use Rattle.wh_history.specs.Accepted.{member_of}
 use Rattle.wh_plan.proofs.PlanNaturals.{next_taken}
 use Rattle.wh_plan.proofs.records.record_plan.stored_members.Goals as goal
+use Rattle.wh_sql.proofs.Sparing.{tables_again, then_spares}
 
 pub loop-natural-preserved : goal.loop-natural-preserved
 loop-natural-preserved g c =
@@ -10,17 +11,13 @@ loop-natural-preserved g c =
     let read = c.in_ok-stored_member.ensures.reads in
     record {
       reads = record {
-        clean = λ clean. kept.clean (read.clean clean);
+        spares = then_spares kept.spares tt read.spares;
         sound = λ clean t at. tt;
-        same = λ clean t at served. read.same clean t (kept.same (read.clean clean) t at tt) tt;
-        left = λ clean t at. read.left clean t (kept.same (read.clean clean) t at tt);
-        rests = λ clean stored at served. read.rests clean stored (kept.rests (read.clean clean) stored at tt) tt;
-        leaves = λ clean stored at. read.leaves clean stored (kept.rests (read.clean clean) stored at tt);
         named = λ clean stored at. tt;
       };
       members = λ clean limits commands t are at full.
-          let one = c.in_ok-stored_member.ensures.member clean limits commands t are (kept.same (read.clean clean) t at tt) full in
-          let so_far = c.loop-natural.invariant.members (read.clean clean) limits commands t are at full in
+          let one = c.in_ok-stored_member.ensures.member clean limits commands t are (tables_again kept.spares (read.spares.clean clean) t at tt) full in
+          let so_far = c.loop-natural.invariant.members (read.spares.clean clean) limits commands t are at full in
           let more = next_taken c.args.naturals.now c.loop-natural.natural-index c.natural-item.result c.loop-natural-test.true c.natural-item.is in
           c.in_ok-push.ensures.items
           ∙ ap₂ (λ ms m. ms ++ m ∷ []) so_far one

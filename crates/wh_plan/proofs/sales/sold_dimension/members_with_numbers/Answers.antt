@@ -4,6 +4,8 @@ use Rattle.wh_history.specs.Accepted.{member_of}
 use Rattle.wh_plan.specs.SoldMembers.{numbered}
 use Rattle.wh_plan.proofs.SaleBatches.SalesNaturals.{grown_few, numbered_more}
 use Rattle.wh_plan.proofs.sales.sold_dimension.members_with_numbers.Goals as goal
+use Rattle.wh_sql.proofs.Sparing.{tables_again}
+use Rattle.wh_sql.proofs.InTurn.{then_failed}
 
 pub loop-natural-preserved : goal.loop-natural-preserved
 loop-natural-preserved g c =
@@ -23,10 +25,10 @@ loop-natural-preserved g c =
       anchors_few = omega arith;
       reads = search rules;
       members = λ clean limits commands t are at full.
-          let before = read.reads.clean clean in
+          let before = read.reads.spares.clean clean in
           numbered_more (member_of c.args.dim commands) c.args.naturals.now i c.natural-item.result c.loop-natural.found.items c.push.new.self.items (numbered c.args.drawn.members c.args.drawn.anchors (map (member_of c.args.dim commands) c.args.naturals.now)) stored
           c.give_numbers.new.member c.loop-natural.members c.loop-natural.anchors c.give_numbers.new.members c.give_numbers.new.anchors
-          c.loop-natural-test.true c.natural-item.is (read.member clean limits commands t are (kept.reads.same before t at tt) full) c.in_ok-push.ensures.items given.member given.members given.anchors (kept.members before limits commands t are at full);
+          c.loop-natural-test.true c.natural-item.is (read.member clean limits commands t are (tables_again kept.reads.spares before t at tt) full) c.in_ok-push.ensures.items given.member given.members given.anchors (kept.members before limits commands t are at full);
     }
 
 pub returns-clause-members : goal.returns-clause-members
@@ -34,3 +36,6 @@ returns-clause-members g c clean limits commands t are at full =
     let left = c.loop-natural in
     let none = drop_all left.natural-index c.args.naturals.now c.loop-natural-test.false in
     sym (append-nil left.found.items) ∙ ap (λ (rest : List (List ℕ)). left.found.items ++ numbered left.members left.anchors (map (member_of c.args.dim commands) rest)) (sym none) ∙ left.invariant.members clean limits commands t are at full
+
+pub returns-in_err-member-clause-reads : goal.returns-in_err-member-clause-reads
+returns-in_err-member-clause-reads g c = then_failed c.loop-natural.invariant.reads c.in_err-member.ensures.reads c.from_residual.ensures

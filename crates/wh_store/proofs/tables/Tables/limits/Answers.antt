@@ -1,9 +1,11 @@
-use Rattle.std.proofs.Common.{◌≡◌, Some, None, sym, refl, inl, inr, arith}
+use Rattle.std.proofs.Common.{◌≡◌, Some, None, sym, subst, refl, inl, inr, arith}
 use Rattle.std.proofs.lemmas.Result.{err_from_is_err_and}
-use Rattle.wh_sql.specs.declared.fault.ReadFault.TheVariants.{Store}
+use Rattle.wh_sql.specs.declared.fault.ReadFault.TheVariants.{Damaged, Store}
 use Rattle.wh_store.specs.Meta.{limits_of_numbers}
 use Rattle.wh_store.proofs.Refusals.{limit_unread}
 use Rattle.wh_store.proofs.tables.Tables.limits.Goals as goal
+use Rattle.wh_sql.specs.Reads.{SparesRows}
+use Rattle.wh_sql.proofs.Sparing.{stored_again, tables_again}
 
 pub returns-in_err-commands-clause-refused : goal.returns-in_err-commands-clause-refused
 returns-in_err-commands-clause-refused g c clean cause is =
@@ -26,30 +28,49 @@ returns-in_err-facts-clause-refused g c clean cause is =
 -- src/tables.rt:75:5
 pub returns-in-Some-clause-limits : goal.returns-in-Some-clause-limits
 returns-in-Some-clause-limits g c clean t at =
-    let second = c.number-3.ensures.reads.clean clean in
-    let first = c.number-2.ensures.reads.clean second in
-    let one = c.in_ok-commands.ensures.reads.same first t at tt in
-    let two = c.in_ok-changes.ensures.reads.same second t one tt in
+    let second = c.number-3.ensures.reads.spares.clean clean in
+    let first = c.number-2.ensures.reads.spares.clean second in
+    let one = tables_again c.in_ok-commands.ensures.reads.spares first t at tt in
+    let two = tables_again c.in_ok-changes.ensures.reads.spares second t one tt in
     let found : Some c.in-Some.limits ≡ limits_of_numbers c.in_ok-commands.commands c.in_ok-changes.changes c.in_ok-facts.facts = c.in-Some.ensures in
     sym (rw (c.in_ok-commands.ensures.number first t at, c.in_ok-changes.ensures.number second t one, c.in_ok-facts.ensures.number clean t two) at found)
 
 -- src/tables.rt:75:5
 pub returns-in-None-clause-damaged : goal.returns-in-None-clause-damaged
 returns-in-None-clause-damaged g c clean t at table is =
-    let second = c.number-3.ensures.reads.clean clean in
-    let first = c.number-2.ensures.reads.clean second in
-    let one = c.in_ok-commands.ensures.reads.same first t at tt in
-    let two = c.in_ok-changes.ensures.reads.same second t one tt in
+    let second = c.number-3.ensures.reads.spares.clean clean in
+    let first = c.number-2.ensures.reads.spares.clean second in
+    let one = tables_again c.in_ok-commands.ensures.reads.spares first t at tt in
+    let two = tables_again c.in_ok-changes.ensures.reads.spares second t one tt in
     let found : None ≡ limits_of_numbers c.in_ok-commands.commands c.in_ok-changes.changes c.in_ok-facts.facts = c.in-None.ensures in
     (cc, sym (rw (c.in_ok-commands.ensures.number first t at, c.in_ok-changes.ensures.number second t one, c.in_ok-facts.ensures.number clean t two) at found))
 
+pub returns-in_err-facts-clause-damaged : goal.returns-in_err-facts-clause-damaged
+returns-in_err-facts-clause-damaged g c clean t at table is =
+    let second = c.number-3.ensures.reads.spares.clean clean in
+    let first = c.number-2.ensures.reads.spares.clean second in
+    let one = tables_again c.in_ok-commands.ensures.reads.spares first t at tt in
+    let two = tables_again c.in_ok-changes.ensures.reads.spares second t one tt in
+    let p = err_from_is_err_and c.from_residual-in_err-facts.result c.from_residual-in_err-facts.ensures.1 in
+    let same : c.in_err-facts.field-0.0 ≡ Damaged table = cc (p.1, p.2, is) in
+    absurd (subst SparesRows same (c.in_err-facts.ensures.reads.sound clean t two))
+
 -- ---- of any stored rows
+
+pub returns-in-Some-clause-stored : goal.returns-in-Some-clause-stored
+returns-in-Some-clause-stored g c clean stored at =
+    let second = c.number-3.ensures.reads.spares.clean clean in
+    let first = c.number-2.ensures.reads.spares.clean second in
+    let one = stored_again c.in_ok-commands.ensures.reads.spares first stored at tt in
+    let two = stored_again c.in_ok-changes.ensures.reads.spares second stored one tt in
+    let found : Some c.in-Some.limits ≡ limits_of_numbers c.in_ok-commands.commands c.in_ok-changes.changes c.in_ok-facts.facts = c.in-Some.ensures in
+    (_, _, _, c.in_ok-commands.ensures.stored first stored at, c.in_ok-changes.ensures.stored second stored one, c.in_ok-facts.ensures.stored clean stored two, sym found)
 
 pub returns-in-None-clause-limitless : goal.returns-in-None-clause-limitless
 returns-in-None-clause-limitless g c clean stored at =
-    let second = c.number-3.ensures.reads.clean clean in
-    let first = c.number-2.ensures.reads.clean second in
-    let one = c.in_ok-commands.ensures.reads.rests first stored at tt in
-    let two = c.in_ok-changes.ensures.reads.rests second stored one tt in
+    let second = c.number-3.ensures.reads.spares.clean clean in
+    let first = c.number-2.ensures.reads.spares.clean second in
+    let one = stored_again c.in_ok-commands.ensures.reads.spares first stored at tt in
+    let two = stored_again c.in_ok-changes.ensures.reads.spares second stored one tt in
     let found : None ≡ limits_of_numbers c.in_ok-commands.commands c.in_ok-changes.changes c.in_ok-facts.facts = c.in-None.ensures in
     (refl, inl (_, _, _, c.in_ok-commands.ensures.stored first stored at, c.in_ok-changes.ensures.stored second stored one, c.in_ok-facts.ensures.stored clean stored two, sym found))

@@ -3,6 +3,7 @@ use Rattle.sqlite.specs.Held.{state}
 use Rattle.wh_program.proofs.CheckLemmas.{checked, unchecked}
 use Rattle.wh_program.proofs.WarehouseLemmas.{none_there}
 use Rattle.wh_program.proofs.visits.verdict.CheckingVisitor.visit.Goals as goal
+use Rattle.wh_sql.proofs.Sparing.{stored_again, stored_left}
 
 pub returns-in-Ok : goal.returns-in-Ok
 returns-in-Ok g c = rw c.close.ensures (λ clean content at.
@@ -14,8 +15,8 @@ returns-in-Ok g c = rw c.close.ensures (λ clean content at.
     (λ rests. let e = c.in-Ok.ensures.missing rests.autocommit (rw rests.now.schema none_there) in cc)
     (c.in-Ok.ensures.found_stored (check.reads.spares.clean clean))
     (check.checked c.in-Ok.ensures.fresh.0 clean)
-    (check.reads.spares.rests clean)
-    (check.reads.spares.leaves clean)
+    (stored_again check.reads.spares clean)
+    (stored_left check.reads.spares clean)
     c.verdict_answer.ensures at)
 
 pub returns-in-Err : goal.returns-in-Err
