@@ -1,13 +1,13 @@
 -- Commands that come one after the other.
-use Rattle.std.proofs.Common.{◌≡◌, ◌≢◌, ℕ, suc, ◌<◌, false, inr, arith, List, [], ◌∷◌, ◌++◌, length, take, Some, Result, Ok, Err, refl, sym, ap, subst, ◌∙◌}
+use Rattle.std.proofs.Common.{◌≡◌, ◌≢◌, ℕ, suc, ◌<◌, Bool, false, inr, arith, List, [], ◌∷◌, ◌++◌, length, take, Some, Result, Ok, Err, refl, sym, ap, subst, ◌∙◌}
 use Rattle.sqlite.specs.State.{State}
 use Rattle.wh_history.specs.Accepted.{Accepted}
 use Rattle.wh_history.specs.Tables.{Limits}
 use Rattle.wh_admission.specs.Admission.{answer, after_answer, accepted_after, accepted_after_all}
 use Rattle.wh_policy.specs.declared.policy.Policy.{Policy}
 use Rattle.wh_engine.specs.Answered.{IsReady, IsStopped, IsAnswered, IsGoverned, KeepsNothing, IsNotAccepted, IsWritten}
-use Rattle.wh_engine.specs.Delivered.{answers_to, answer_or_stop, AcceptsNothing, AcceptNothing, AreAsMany, AreLed, IsDelivered, IsLastWritten, as_called, is_of_the_store}
-use Rattle.wh_engine.specs.Faults.{stops}
+use Rattle.wh_engine.specs.Delivered.{answers_to, answer_or_stop, AcceptsNothing, AcceptNothing, AreAsMany, AreLed, EachUntilAccepted, IsDelivered, IsLastWritten, as_called, is_of_the_store}
+use Rattle.wh_engine.specs.Faults.{TellsTaken, stops}
 use Rattle.wh_engine.specs.Nights.{DeliveriesJoin}
 use Rattle.wh_admission.specs.declared.command.Command.{Command}
 use Rattle.wh_admission.specs.declared.command.Refusal.{Refusal}
@@ -131,6 +131,29 @@ module _ {X : Type 0} (Leads : X → X → Command → Result Reply Fault → Ty
   led_among old new [] sent more so = so
   led_among old new (a ∷ answers) [] more so = absurd so
   led_among old new (a ∷ answers) (c ∷ sent) more so = (so.0, so.1, led_among so.0 new answers sent more so.2)
+
+-- what each answer says up to the first by which something was accepted
+module _ (Says : Command → Result Reply Fault → Type 0) where
+  pub until_on : (answers : List (Result Reply Refusal)) (told : Result Reply Refusal) (sent : List Command) (c : Command)
+      → EachUntilAccepted Says answers sent → length sent ≡ length answers → (AcceptNothing answers → Says c (as_called told)) → EachUntilAccepted Says (answers ++ told ∷ []) (sent ++ c ∷ [])
+  until_on [] told [] c so same is = (is tt, λ nothing. tt)
+  until_on [] told (d ∷ sent) c so same is = absurd (omega (arith, same))
+  until_on (a ∷ answers) told [] c so same is = absurd so
+  until_on (a ∷ answers) told (d ∷ sent) c so same is = (so.0, λ nothing. until_on answers told sent c (so.1 nothing) (omega (arith, same)) (λ others. is (nothing, others)))
+
+  pub until_among : (answers : List (Result Reply Refusal)) (sent more : List Command) → EachUntilAccepted Says answers sent → EachUntilAccepted Says answers (sent ++ more)
+  until_among [] sent more so = tt
+  until_among (a ∷ answers) [] more so = absurd so
+  until_among (a ∷ answers) (c ∷ sent) more so = (so.0, λ nothing. until_among answers sent more (so.1 nothing))
+
+-- what is told of a name after a call is so before, where nothing was accepted
+pub taken_before : (before after : Bool) (result : Result Reply Fault) → (KeepsNothing result → after ≡ before) → TellsTaken after result → TellsTaken before result
+taken_before before after (Ok reply) same told = tt
+taken_before before after (Err (faults.Refused why)) same told = subst (λ taken. TellsTaken {A = Reply} taken (Err (faults.Refused why))) (same tt) told
+taken_before before after (Err (faults.Damaged table)) same told = tt
+taken_before before after (Err faults.Memory) same told = tt
+taken_before before after (Err (faults.Store cause)) same told = tt
+taken_before before after (Err faults.Reopen) same told = tt
 
 -- a stop is kept in the session
 pub flag_at_stop : (fault : Fault) → stops {A = Reply} (Err fault) ≡ is_of_the_store (Some fault)

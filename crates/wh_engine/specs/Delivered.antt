@@ -1,10 +1,10 @@
 -- What a warehouse holds after commands that are delivered one after the other.
-use Rattle.std.specs.Prelude.{◌≡◌, ◌⊎◌, ℕ, suc, ◌<◌, Bool, true, false, List, [], ◌∷◌, length, take, Option, Some, None, Result, Ok, Err, ⊤}
+use Rattle.std.specs.Prelude.{◌≡◌, ◌⊎◌, ℕ, suc, ◌<◌, Bool, true, false, List, [], ◌∷◌, length, take, Option, Some, None, IfSome, Result, Ok, Err, ⊤}
 use Rattle.std.specs.List.{AllByRecursion}
 use Rattle.sqlite.specs.State.{State}
 use Rattle.wh_history.specs.Accepted.{Accepted}
 use Rattle.wh_history.specs.Tables.{Limits}
-use Rattle.wh_rows.specs.Raw.{Stored, HasDamageIn}
+use Rattle.wh_rows.specs.Raw.{Stored}
 use Rattle.wh_admission.specs.Admission.{answer, accepted_after, accepted_after_all}
 use Rattle.wh_engine.specs.Answered.{IsReady, IsStopped, IsGoverned, IsFormatted, IsWritten}
 use Rattle.wh_admission.specs.declared.command.Command.{Command}
@@ -14,6 +14,7 @@ use Rattle.wh_admission.specs.declared.command.Reply.TheVariants as replies
 use Rattle.wh_engine.specs.declared.fault.Fault.{Fault}
 use Rattle.wh_engine.specs.declared.fault.Fault.TheVariants.{Refused, Damaged, Memory, Store, Reopen}
 use Rattle.wh_engine.specs.declared.session.Session.{Session}
+use Rattle.wh_engine.specs.Faults.{NamesDamage}
 
 -- the answer to each of the commands, under the list that those before it lead to
 abbrev pub answers_to : Limits → List Accepted → List Command → List (Result Reply Refusal)
@@ -72,8 +73,7 @@ IsNoRefusal None = ⊤
 
 -- the table that is blamed by a stop stores a damaged row
 abbrev pub BlamesStored : Stored → Option Fault → Type 0
-BlamesStored stored (Some (Damaged table)) = HasDamageIn stored table
-BlamesStored stored stop = ⊤
+BlamesStored stored stop = IfSome stop (NamesDamage stored)
 
 -- With no stop each of the commands is answered; else the first of them are, and not all; none where the warehouse had to be opened again.
 abbrev pub AreAsMany : List Command → List (Result Reply Refusal) → Option Fault → Type 0
@@ -92,6 +92,12 @@ abbrev pub AreLed : {X : Type 0} → (X → X → Command → Result Reply Fault
 AreLed Leads old new [] sent = new ≡ old
 AreLed Leads old new (told ∷ answers) [] = ⊥
 AreLed {X} Leads old new (told ∷ answers) (c ∷ sent) = (between : X) × Leads old between c (as_called told) × AreLed Leads between new answers sent
+
+-- the answers say this of their commands, up to the first by which something was accepted
+abbrev pub EachUntilAccepted : (Command → Result Reply Fault → Type 0) → List (Result Reply Refusal) → List Command → Type 0
+EachUntilAccepted Says [] sent = ⊤
+EachUntilAccepted Says (told ∷ answers) [] = ⊥
+EachUntilAccepted Says (told ∷ answers) (c ∷ sent) = Says c (as_called told) × (AcceptsNothing told → EachUntilAccepted Says answers sent)
 
 -- A delivery notes whether the store refused a call. The limits stay, and so does the policy where nothing was accepted; else it and the format are what the accepted commands make of them.
 pub record IsDeliveryNoted (old new : Session) (sent : List Command) (answers : List (Result Reply Refusal)) (stop : Option Fault) : Type 0 where

@@ -1,7 +1,11 @@
 //! Commands that are delivered one after the other.
 
 ghost use Rattle.std.specs.Prelude.{◌≡◌, false, Some};
-ghost use Rattle.wh_engine.specs.Delivered.{answer_or_stop, is_of_the_store, AcceptNothing, AreAsMany, BlamesStored, IsDelivered, IsDeliveryNoted, IsDeliveryWritten, IsNoRefusal};
+ghost use Rattle.wh_engine.specs.Delivered.{answer_or_stop, is_of_the_store, AcceptNothing, AreAsMany, BlamesStored, EachUntilAccepted, IsDelivered, IsDeliveryNoted, IsDeliveryWritten, IsNoRefusal};
+ghost use Rattle.sqlite.specs.State.{HasCleanDisk};
+ghost use Rattle.wh_store.specs.Reads.{is_second_taken, state_of};
+ghost use Rattle.wh_engine.specs.Answered.{IsAgain};
+ghost use Rattle.wh_engine.specs.Faults.{TellsTaken};
 ghost use Rattle.wh_engine.specs.Scanned.{Keeps, Shuts, WhenReady, WhenStored};
 
 use crate::engine::Engine;
@@ -35,7 +39,7 @@ impl<S: Alter> Engine<S> {
     /// first: where that is refused, no command is begun. After a refusal of the store, in this call or an earlier one, the warehouse has
     /// to be opened again.
     pub fn deliver(&mut self, alloc: Global, commands: &[Command]) -> Replies
-        // Any tables, and any stored rows, stay as they were where nothing was accepted and the store refused no call.
+        // Any database stays as it was where nothing was accepted and the store refused no call.
         ensures keeps { Keeps S.Store self.old.tables self.new.tables (AcceptNothing result.answers.items × (is_of_the_store result.stop ≡ false)) }
         ensures delivered { WhenReady S.Store self.old self.new (λ limits accepted. IsDelivered limits accepted commands.now result.answers.items result.stop) }
         // On any tables: how many are answered, and that no refusal of a command is a stop.
@@ -43,6 +47,10 @@ impl<S: Alter> Engine<S> {
         ensures faults { IsNoRefusal result.stop }
         // The table that is named as damaged stores a damaged row, where nothing was accepted before.
         ensures blames { WhenStored S.Store self.old.tables self.new.tables (λ stored. AcceptNothing result.answers.items → BlamesStored stored result.stop) }
+        // Up to the first acceptance: that a command came again is answered only where an undamaged row is stored with its id, kind and bytes, and
+        // that a name of the second format is taken only where it is.
+        ensures again { WhenStored S.Store self.old.tables self.new.tables (λ stored. EachUntilAccepted (IsAgain stored) result.answers.items commands.now) }
+        ensures taken { HasCleanDisk (state_of S.Store self.new.tables) → EachUntilAccepted (λ _ told. TellsTaken (is_second_taken (state_of S.Store self.old.tables).now.schema) told) result.answers.items commands.now }
         ensures shuts { Shuts self.old self.new (result.stop ≡ Some Fault.Reopen) }
         // As many keys are written as the last command writes, and none where the delivery was stopped or nothing was accepted.
         ensures written { WhenReady S.Store self.old self.new (λ limits accepted _ _. IsDeliveryWritten limits accepted commands.now result.stop self.new.writes) }

@@ -1,13 +1,20 @@
-use Rattle.std.proofs.Common.{◌≡◌, ◌<◌, ◌++◌, ◌∷◌, [], ◌+◌, suc, take, drop, length, Ok, Err, sym, ap, ap₂, subst, subst₂, ◌∙◌, arith, length-take}
+use Rattle.std.proofs.Common.{◌≡◌, ◌<◌, Bool, Result, ◌++◌, ◌∷◌, [], ◌+◌, suc, take, drop, length, Ok, Err, sym, ap, ap₂, subst, subst₂, ◌∙◌, arith, length-take}
 use Rattle.std.proofs.lemmas.Grind.{common_steps}
 use Rattle.std.proofs.lemmas.List.{take_more, take-append-drop}
+use Rattle.sqlite.specs.Effect.{Database}
 use Rattle.sqlite.specs.Held.{state}
+use Rattle.sqlite.specs.State.{State}
 use Rattle.wh_admission.specs.Admission.{accepted_after_all}
-use Rattle.wh_engine.specs.Answered.{IsReady, IsAnswered, IsGoverned, IsFormatted, KeepsNothing, IsNotAccepted, IsWritten}
-use Rattle.wh_engine.specs.Delivered.{answers_to, answer_or_stop, as_called, AcceptNothing, AreLed, IsLastWritten}
-use Rattle.wh_engine.proofs.Keeping.{keeps_on, keeps_where}
-use Rattle.wh_engine.proofs.Delivering.{deliveries_join, answers_join, goes_on, not_stopped, keeps, keeps_at_stop, stop_is, stopped_at, nothing_before, called, last_written, policy_stays, led_on, led_among, flag_at_stop, many_at_stop}
-use Rattle.wh_engine.specs.Faults.{stops}
+use Rattle.wh_admission.specs.declared.command.Command.{Command}
+use Rattle.wh_admission.specs.declared.command.Reply.{Reply}
+use Rattle.wh_engine.specs.declared.fault.Fault.{Fault}
+use Rattle.wh_store.specs.Reads.{is_second_taken}
+use Rattle.wh_engine.specs.Answered.{IsAgain, IsReady, IsAnswered, IsGoverned, IsFormatted, KeepsNothing, IsNotAccepted, IsWritten}
+use Rattle.wh_engine.specs.Delivered.{answers_to, answer_or_stop, as_called, AcceptNothing, AreLed, EachUntilAccepted, IsLastWritten}
+use Rattle.wh_engine.proofs.Keeping.{keeps_on, keeps_spares, keeps_where}
+use Rattle.wh_engine.proofs.Delivering.{deliveries_join, answers_join, goes_on, not_stopped, keeps, keeps_at_stop, stop_is, stopped_at, nothing_before, called, last_written, policy_stays, led_on, led_among, flag_at_stop, many_at_stop, taken_before, until_among, until_on}
+use Rattle.wh_engine.specs.Faults.{BlamesDamage, TellsTaken, stops}
+use Rattle.wh_sql.proofs.Sparing.{stored_again}
 use Rattle.wh_engine.proofs.engine.Engine.deliver.Goals as goal
 
 pub returns-in-Err-clause-delivered : goal.returns-in-Err-clause-delivered
@@ -78,6 +85,29 @@ returns-in-Err-clause-noted g c off =
           (led_among IsFormatted c.args.self.now.session.format c.loop-command.self.session.format answers (take i sent) (drop i sent) kept.formatted);
     }
 
+pub returns-in-Err-clause-blames : goal.returns-in-Err-clause-blames
+returns-in-Err-clause-blames g c clean stored at nothing =
+    let kept = c.loop-command.invariant in
+    let before = c.apply-answered.ensures.keeps.clean clean in
+    let then_at = stored_again (keeps_spares g.S.Store _ _ nothing kept.keeps) before stored at tt in
+    subst (BlamesDamage stored) (stop_is c.apply-answered.result c.in-Err.fault (sym c.in-Err.ensures)) (c.apply-answered.ensures.blames clean stored then_at)
+
+pub returns-in-Err-clause-again : goal.returns-in-Err-clause-again
+returns-in-Err-clause-again g c clean stored at =
+    let sent = c.args.commands.now in
+    let i = c.loop-command.command-index in
+    let answers = c.loop-command.answers.items in
+    subst (EachUntilAccepted (IsAgain stored) answers) (take-append-drop i sent)
+    (until_among (IsAgain stored) answers (take i sent) (drop i sent) (c.loop-command.invariant.again (c.apply-answered.ensures.keeps.clean clean) stored at))
+
+pub returns-in-Err-clause-taken : goal.returns-in-Err-clause-taken
+returns-in-Err-clause-taken g c clean =
+    let sent = c.args.commands.now in
+    let i = c.loop-command.command-index in
+    let answers = c.loop-command.answers.items in
+    let Says : Command → Result Reply Fault → Type 0 = λ _. TellsTaken (is_second_taken (state g.S.Store c.args.self.now.tables.conn).now.schema) in
+    subst (EachUntilAccepted Says answers) (take-append-drop i sent) (until_among Says answers (take i sent) (drop i sent) (c.loop-command.invariant.taken (c.apply-answered.ensures.keeps.clean clean)))
+
 pub loop-command-preserved : goal.loop-command-preserved
 loop-command-preserved g c =
     let kept = c.loop-command.invariant in
@@ -102,6 +132,20 @@ loop-command-preserved g c =
       count = c.push_reserved.ensures.len ∙ ap (λ n. n + 1) kept.count;
       room = c.push_reserved.ensures.capacity ∙ kept.room;
       keeps = keeps_on g.S.Store _ _ _ _ _ _ (λ nothing. (split nothing).0) (λ nothing. (split nothing).1) kept.keeps c.apply-answered.ensures.keeps;
+      again = λ clean stored at.
+          let before = c.apply-answered.ensures.keeps.clean clean in
+          let one = λ (nothing : AcceptNothing answers). subst (IsAgain stored command) (called answered answer e)
+          (c.apply-answered.ensures.again clean stored (stored_again (keeps_spares g.S.Store _ _ nothing kept.keeps) before stored at tt)) in
+          subst₂ (EachUntilAccepted (IsAgain stored)) (sym c.push_reserved.ensures.items) (sym more) (until_on (IsAgain stored) answers answer (take i sent) command (kept.again before stored at) counted one);
+      taken = λ clean.
+          let before = c.apply-answered.ensures.keeps.clean clean in
+          let first = is_second_taken (state g.S.Store c.args.self.now.tables.conn).now.schema in
+          let schema : State → Bool = λ s. is_second_taken s.now.schema in
+          let one = λ (nothing : AcceptNothing answers).
+          let same = (keeps_spares g.S.Store c.args.self.now.tables c.loop-command.self.tables nothing kept.keeps).same before tt in
+          subst (TellsTaken first) (called answered answer e) (taken_before first (schema s) answered
+          (λ calm. ap (λ (d : Database). is_second_taken d.schema) ((c.apply-answered.ensures.keeps.same clean calm).now ∙ same.now)) c.apply-answered.ensures.taken) in
+          subst₂ (EachUntilAccepted (λ _. TellsTaken first)) (sym c.push_reserved.ensures.items) (sym more) (until_on (λ _. TellsTaken first) answers answer (take i sent) command (kept.taken before) counted one);
       limits = noted.limits ∙ kept.limits;
       policy = λ nothing. let parts = split nothing in policy_stays c.loop-command.self.session.policy session.policy command answered noted.policy parts.2 ∙ kept.policy parts.0;
       governed =
@@ -152,3 +196,14 @@ returns-clause-written g c clean limits accepted ready =
     let was = c.loop-command.invariant.written clean limits accepted ready in
     let whole : take c.loop-command.command-index c.args.commands.now ≡ c.args.commands.now = grind (arith, common_steps, c.loop-command-test.false) in
     rw whole at was
+
+pub returns-clause-again : goal.returns-clause-again
+returns-clause-again g c clean stored at =
+    let whole : take c.loop-command.command-index c.args.commands.now ≡ c.args.commands.now = grind (arith, common_steps, c.loop-command-test.false) in
+    subst (EachUntilAccepted (IsAgain stored) c.loop-command.answers.items) whole (c.loop-command.invariant.again clean stored at)
+
+pub returns-clause-taken : goal.returns-clause-taken
+returns-clause-taken g c clean =
+    let Says : Command → Result Reply Fault → Type 0 = λ _. TellsTaken (is_second_taken (state g.S.Store c.args.self.now.tables.conn).now.schema) in
+    let whole : take c.loop-command.command-index c.args.commands.now ≡ c.args.commands.now = grind (arith, common_steps, c.loop-command-test.false) in
+    subst (EachUntilAccepted Says c.loop-command.answers.items) whole (c.loop-command.invariant.taken clean)

@@ -5,8 +5,11 @@ use Rattle.sqlite.specs.State.{HasCleanDisk}
 use Rattle.wh_history.specs.Accepted.{Accepted}
 use Rattle.wh_history.specs.Tables.{Limits}
 use Rattle.wh_admission.specs.Admission.{accepted_after_all}
-use Rattle.wh_engine.specs.Answered.{IsReady, IsGoverned, IsFormatted}
-use Rattle.wh_engine.specs.Delivered.{answers_to, AcceptNothing, AreLed, IsLastWritten}
+use Rattle.wh_rows.specs.Raw.{Stored, RestsOn}
+use Rattle.wh_store.specs.Reads.{is_second_taken}
+use Rattle.wh_engine.specs.Answered.{IsAgain, IsReady, IsGoverned, IsFormatted}
+use Rattle.wh_engine.specs.Faults.{TellsTaken}
+use Rattle.wh_engine.specs.Delivered.{answers_to, AcceptNothing, AreLed, EachUntilAccepted, IsLastWritten}
 use Rattle.wh_engine.specs.Scanned.{Keeps}
 use Rattle.wh_engine.proofs.engine.Engine.deliver.Given as goal
 
@@ -19,6 +22,8 @@ invariant-loop-command g l =
       count : vec_len l.answers ≡ l.command-index;
       room : vec_capacity l.answers ≡ length l.commands;
       keeps : Keeps g.S.Store l.fn.self.tables l.self.tables (AcceptNothing l.answers.items);
+      again : HasCleanDisk now → (stored : Stored) → RestsOn stored old → EachUntilAccepted (IsAgain stored) l.answers.items (take l.command-index l.commands);
+      taken : HasCleanDisk now → EachUntilAccepted (λ _ told. TellsTaken (is_second_taken old.now.schema) told) l.answers.items (take l.command-index l.commands);
       limits : l.self.session.limits ≡ l.fn.self.session.limits;
       policy : AcceptNothing l.answers.items → l.self.session.policy ≡ l.fn.self.session.policy;
       governed : AreLed IsGoverned l.fn.self.session.policy l.self.session.policy l.answers.items (take l.command-index l.commands);
