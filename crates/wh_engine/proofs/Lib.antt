@@ -29,3 +29,4 @@ pub mod Keeping
 pub mod Outcomes
 pub mod Previewing
 pub mod CarriedMembers
+pub mod NoLines

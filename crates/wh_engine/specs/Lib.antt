@@ -16,3 +16,4 @@ pub mod Tallied
 pub mod Links
 pub mod Carried
 pub mod Previewed
+pub mod Tickets

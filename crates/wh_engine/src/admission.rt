@@ -13,6 +13,7 @@ ghost use Rattle.wh_model.specs.Sound.{IsAccepted, is_sold_line, same_line};
 ghost use Rattle.wh_engine.specs.Scanned.{Reads, ReadsOnlyIn, WhenAccepted, WhenAtRest, WhenOfCommands, WhenStored};
 
 use crate::fault::Fault;
+use crate::tickets::are_new;
 use sqlite::Alter;
 use std::alloc::Global;
 use wh_admission::{Command, Limit, Receipt, Refusal};
@@ -144,8 +145,8 @@ fn is_line_there<S: Alter>(
     is_withdrawn(tables, alloc, format, &key)
 }
 
-/// The first sale, from 1, whose line has a stored fact or was withdrawn.
-fn first_line_there<S: Alter>(
+/// The first sale, from 1, whose line has a stored fact or was withdrawn, by a question for each.
+fn first_line_found<S: Alter>(
     tables: &mut Tables<S>,
     alloc: Global,
     format: Format,
@@ -160,6 +161,22 @@ fn first_line_there<S: Alter>(
         }
     }
     Ok(None)
+}
+
+/// The first sale, from 1, whose line has a stored fact or was withdrawn.
+fn first_line_there<S: Alter>(
+    tables: &mut Tables<S>,
+    alloc: Global,
+    format: Format,
+    sales: &[SaleRecord],
+) -> Result<Option<u64>, ReadFault>
+    ensures reads { ReadsOnlyIn S.Store tables.old tables.new result }
+    ensures there { WhenOfCommands S.Store tables.old tables.new (λ limits commands. format ≡ format_of commands → IsAccepted limits commands → IfOk result (λ there. there ≡ first_line_there (sold commands) 1 sales.now)) }
+{
+    if are_new(tables, alloc, format, sales)? {
+        return Ok(None);
+    }
+    first_line_found(tables, alloc, format, sales)
 }
 
 /// Whether no fact with a void's ticket and line is stored.

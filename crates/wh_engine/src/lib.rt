@@ -19,6 +19,7 @@ mod reopen;
 mod scan;
 mod session;
 mod tally;
+mod tickets;
 mod write;
 
 pub use counts::Counts;

@@ -4,7 +4,7 @@ use Rattle.wh_store.specs.Reads.{ReadsOnly, state_of}
 use Rattle.wh_plan.specs.Reads.{Finds}
 use Rattle.wh_admission.specs.Admission.{first_line_there}
 use Rattle.wh_model.specs.Sound.{IsAccepted}
-use Rattle.wh_engine.proofs.admission.first_line_there.Given as goal
+use Rattle.wh_engine.proofs.admission.first_line_found.Given as goal
 
 -- the first line among the sales that are left, counted on, is the first among all
 abbrev pub invariant-loop-place : goal.invariant-loop-place
