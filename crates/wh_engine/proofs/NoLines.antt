@@ -231,3 +231,9 @@ reads_told last (Ok key) r = answers_other r
 reads_told last (Err Memory) r = fails_other r
 reads_told last (Err (Damaged table)) r = record { spares = r.spares; sound = λ clean t rests. tt; named = λ clean stored rests. tt }
 reads_told last (Err (Store why)) r = fails_other r
+
+pub none_told : (P : Type 0) (last : List ℕ) (found : Result (Option LineKey) ReadFault) → IfOk found (λ key. is_past last key ≡ true → P) → IfOk (tells_none last found) (λ none. IsTrue none → P)
+none_told P last (Ok key) h = h
+none_told P last (Err Memory) h = tt
+none_told P last (Err (Damaged table)) h = λ never. absurd (cc)
+none_told P last (Err (Store why)) h = tt

@@ -8,7 +8,7 @@ use Rattle.wh_store.specs.Reads.{state_of}
 use Rattle.wh_store.specs.Scan.{AreLeft, HandsOutOf, rows_left}
 use Rattle.wh_checking.proofs.Comparing.{HasSeen, seen_none, seen_next, seen_past, compared, compared_other, part_damaged}
 use Rattle.wh_checking.proofs.ListedMaps.{rows_or_not, listed}
-use Rattle.wh_sql.proofs.InTurn.{reads_nothing, answers_other, then_reads, runs_out}
+use Rattle.wh_sql.proofs.InTurn.{answers_other, reads_nothing, runs_out, then_failed, then_reads}
 use Rattle.wh_checking.proofs.compare.has_the_same_rows.Goals as goal
 use Rattle.wh_checking.proofs.compare.has_the_same_rows.Goals.{then-same+in_ok-same-in-Some, else-same}
 use Rattle.wh_sql.proofs.Sparing.{stored_again}
@@ -125,3 +125,6 @@ rows-preserved g c =
                 (seen_past layout bind stands_at keyed rows once (values m) Left Rest row good hands left (now false w.if-same.false))
           ];
     }
+
+pub returns-in_err-row-clause-reads : goal.returns-in_err-row-clause-reads
+returns-in_err-row-clause-reads g c = then_failed c.rows.invariant.reads c.in_err-row.ensures.reads c.from_residual.ensures
