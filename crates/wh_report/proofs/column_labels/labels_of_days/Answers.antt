@@ -60,3 +60,8 @@ returns-in_err-row-clause-reads g c =
 
 pub returns-clause-reads : goal.returns-clause-reads
 returns-clause-reads g c = out_of_memory _ _ _ _ _ c.days.invariant.reads
+
+pub returns-in_err-add_date-in-Some-clause-reads : goal.returns-in_err-add_date-in-Some-clause-reads
+returns-in_err-add_date-in-Some-clause-reads g c =
+    let p = err_from_is_err_and c.from_residual-in_err-add_date-in-Some.result c.from_residual-in_err-add_date-in-Some.ensures.1 in
+    rw (p.1, p.2) (out_of_memory _ _ _ _ c.in_ok-row.field-0 (and_then _ _ _ _ _ _ tt (Ok c.in_ok-row.field-0) c.days.invariant.reads (through g.S.Store _ _ _ c.in_ok-row.ensures.reads c.in_ok-row.ensures.serves)))
