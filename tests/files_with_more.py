@@ -1,18 +1,21 @@
 #!/usr/bin/env python3
-"""Warehouses in which somebody made more by SQLite: a table of two rows, a view, an index on the facts and what ANALYZE leaves; or the facts' indexes by
-store, product and customer that older files have; or all of it. Build the program first (`rt run` in crates/wh); a C compiler makes the library
-tests/lib/stop_file.c that is loaded in front of it.
+"""Warehouses in which somebody made more by SQLite: a table of two rows, a view, an index on the facts and what ANALYZE leaves; or indexes of the facts by
+store, product and customer; or all of it. And files that an earlier program made, which gave the facts these indexes (tests/older): as they are, and without
+the indexes, dropped as docs/schema.md says. Build the program first (`rt run` in crates/wh); a C compiler makes the library tests/lib/stop_file.c that is
+loaded in front of it.
 
-usage: files_with_more.py [TRIES] [PROGRAM]: 12 tries, or so many.
+usage: files_with_more.py [TRIES] [PROGRAM]: 12 tries, or so many, and those of the older files.
 
 A twin without these things is asked the worked rows (tests/lib/worked.py) and the words below: loads of each kind, late records, migrations, an upgrade, voids,
 a delivery, plans, reports, a query and checks, each with the answer that was worked out by hand. A try takes the twin as it was when it was made, or after some
-of these words, makes the things there, and asks the others: all commands, and some of the rest. Each answer has to be the twin's. After each, SQLite has to
-find the file sound, our tables with the twin's definitions and rows, and the other things as they were: where they stand and how they are defined, their rows,
-and in the view what the twin gives to the same SELECT. Some commands are first ended at one of their calls on the file, and then by `kill -9`: the rows are
-those before or after the command, the other things are as they were, `check` says clean, and the same command again ends with its receipt.
+of these words, makes the things there, and asks the others: all commands, and some of the rest. An older file is one that the earlier program made by the worked
+rows up to one of them, and is asked those behind it. Each answer has to be the twin's. After each, SQLite has to find the file sound, our tables with the twin's
+definitions and rows, and the other things as they were: where they stand and how they are defined, their rows, and in the view what the twin gives to the same
+SELECT. Some commands are first ended at one of their calls on the file, and then by `kill -9`: the rows are those before or after the command, the other things
+are as they were, `check` says clean, and the same command again ends with its receipt.
 """
 
+import lzma
 import os
 import random
 import subprocess
@@ -44,8 +47,13 @@ ANALYZE;
 INDEXES = "".join(f"CREATE INDEX IF NOT EXISTS fact_by_{it} ON fact ({it}_durable, day);" for it in ("store", "product", "customer"))
 # what is made, each behind the name by which a try calls it
 WAYS = (("things", THINGS, ""), ("indexes", "", INDEXES), ("both", THINGS, INDEXES))
+# the worked rows up to which the older files were made, each with what takes its indexes out
+DROPPED = "DROP INDEX fact_by_store; DROP INDEX fact_by_product; DROP INDEX fact_by_customer;"
+OLDER = ((9, DROPPED), (16, DROPPED), (20, DROPPED + DROPPED.replace("fact", "fact2")))
 
-# what is asked behind the worked rows: a store moved in July, and late news says in June; a night, of which the last batch sells what was sold
+# the worked rows that are asked
+WORKED = [it for it in WORDS if not it[1].startswith("dump ")]
+# what is asked behind them: a store moved in July, and late news says in June; a night, of which the last batch sells what was sold
 FILES["k1"] = batch("store", "S1,2024-01-05,Bern", "S1,2024-07-01,Basel")
 FILES["k2"] = batch("store", "S1,2024-06-01,Basel")
 FILES["d10"] = batch("sales2", "T7,1,2024-06-30,S2,P1,C7,3,7.50,4.80,1", "T7,2,2024-06-30,S2,P9,C7,1,10.00,7.00,0")
@@ -129,7 +137,7 @@ def told(lines):
 
 def ask_twin():
     """Asks the twin, and gives the names of its tables and indexes, and the steps; the file after a step is kept as `twin` and the step's number."""
-    asked = [(words, expected(words, lines)) for _, words, lines in WORDS if not words.startswith("dump ")]
+    asked = [(words, expected(words, lines)) for _, words, lines in WORKED]
     asked += [(words, told(lines)) for words, lines in MORE]
     seconds = []
     for number, (words, wanted) in enumerate(asked):
@@ -168,16 +176,15 @@ def killed(step, chance):
 
 
 class Try:
-    """One warehouse with more in it: where it begins, what was made there, and the other things as they then are."""
+    """A warehouse with more in it: the step after which it begins, and the other things as they then are."""
 
-    def __init__(self, number):
+    def __init__(self, name, number, path, first, made, indexes=""):
+        """Takes the file at a path, which holds what the twin held after this step, and makes things in it, and indexes also once there is `fact2`."""
         self.chance = random.Random(number)
-        self.way, things, self.indexes = WAYS[number % len(WAYS)]
-        # that of each way as it was made, and else as it was anywhere on the way
-        self.first = 0 if number < len(WAYS) else self.chance.randrange(len(steps) - len(MORE))
-        self.name, self.ended = f"try {number}, {self.way} after {self.first} words", {"stopped": 0, "killed": 0}
-        copy(f"{folder}/twin{self.first}", f"{folder}/w")
-        self.make(things + self.indexes)
+        self.first, self.indexes = first, indexes
+        self.name, self.ended = f"{name} after {first} words", {"stopped": 0, "killed": 0}
+        copy(path, f"{folder}/w")
+        self.make(made + self.indexes)
         if "fact2" in steps[self.first].held.rows:
             self.make(self.indexes.replace("fact", "fact2"))
 
@@ -219,7 +226,8 @@ class Try:
             copy(f"{folder}/left", f"{folder}/w")
 
     def go(self):
-        """Asks the words behind the first."""
+        """Looks at what it holds, and asks the words behind the first."""
+        count.case(self.judged("as it was made", steps[self.first])[0])
         for before, step in zip(steps[self.first :], steps[self.first + 1 :]):
             if not is_accepted(step) and self.chance.random() >= ASKED:
                 continue
@@ -231,13 +239,29 @@ class Try:
         return self.ended
 
 
+def with_more(number):
+    """A try with things or indexes that are made: that of each way as the twin was made, and else as it was anywhere on the way."""
+    name, things, indexes = WAYS[number % len(WAYS)]
+    first = 0 if number < len(WAYS) else random.Random(number).randrange(len(steps) - len(MORE))
+    return Try(f"try {number}, {name}", number, f"{folder}/twin{first}", first, things, indexes)
+
+
+def older(row, made):
+    """A try with the older file that was made by the rows up to this one, in which something is made."""
+    with lzma.open(f"{HERE}/older/row-{row}.wh.xz") as packed, open(f"{folder}/older", "wb") as file:
+        file.write(packed.read())
+    first = max(place for place, (at, *_) in enumerate(WORKED) if at <= row)
+    return Try(f"older, {made or 'as it is'}", row, f"{folder}/older", first, made)
+
+
 count = Count()
 work = own_folder()
 folder = work.name
 subprocess.run(["cc", "-O1", "-shared", "-fPIC", "-o", f"{folder}/stop.so", f"{HERE}/lib/stop_file.c", "-ldl"], check=True)
 write_files(folder)
 ours, steps = ask_twin()
-ended = [Try(number).go() for number in range(TRIES)]
-print(f"{TRIES} tries, {sum(it['stopped'] for it in ended)} commands stopped at a call, {sum(it['killed'] for it in ended)} killed before they ended")
+ended = [with_more(number).go() for number in range(TRIES)]
+ended += [older(row, made).go() for row, dropped in OLDER for made in ("", dropped)]
+print(f"{len(ended)} tries, {sum(it['stopped'] for it in ended)} commands stopped at a call, {sum(it['killed'] for it in ended)} killed before they ended")
 work.cleanup()
 count.end()
