@@ -1,6 +1,7 @@
 // What people would write instead of `wh report`, `wh query` and `wh dump`: a plain program over C SQLite that prints the same texts of a warehouse's file. It
 // trusts the file, and knows the attributes beforehand. `report FILE brand|month FROM TO`, `report FILE query FROM TO TIER` (by brand and month, of the
-// customers of a tier), or `report FILE fact`. bench/report.py builds and runs it.
+// customers of a tier), `report FILE tuples FROM TO` (by the names of product and customer and the month, the sums by SQLite's own GROUP BY), or
+// `report FILE fact`. bench/report.py builds and runs it.
 #include <algorithm>
 #include <charconv>
 #include <cstdint>
@@ -148,6 +149,30 @@ static void query(const char *from, const char *to, const char *tier) {
         }
 }
 
+static void add_column(std::string &line, sqlite3_stmt *rows, int column) {
+    add_text(line, (const char *)sqlite3_column_text(rows, column), sqlite3_column_bytes(rows, column));
+    line += ',';
+}
+
+// All by one statement.
+static void tuples(const char *from, const char *to) {
+    sqlite3_stmt *rows = facts_between(
+        "SELECT product.a1, customer.a1, substr(calendar.iso, 1, 7), count(*), sum(quantity), sum(amount), sum(cost) FROM fact"
+        " JOIN product ON product.surrogate = fact.product_key JOIN customer ON customer.surrogate = fact.customer_key"
+        " JOIN calendar ON calendar.date_key = fact.day WHERE fact.day BETWEEN ? AND ? GROUP BY 1, 2, 3 ORDER BY 1, 2, 3",
+        from, to);
+    std::printf("product.name:is,customer.name:is,date.month,lines,quantity,amount,cost,margin\n");
+    std::string line;
+    while (steps(rows)) {
+        int64_t amount = sqlite3_column_int64(rows, 5), cost = sqlite3_column_int64(rows, 6);
+        line.clear();
+        for (int column = 0; column < 3; column++) add_column(line, rows, column);
+        std::printf("%s%lld,%lld,%s,%s,%s\n", line.c_str(), (long long)sqlite3_column_int64(rows, 3), (long long)sqlite3_column_int64(rows, 4),
+                    money(amount).c_str(), money(cost).c_str(), money(amount - cost).c_str());
+    }
+    sqlite3_finalize(rows);
+}
+
 static void dump() {
     sqlite3_stmt *rows = prepared("SELECT * FROM fact ORDER BY ticket, line");
     int count = sqlite3_column_count(rows);
@@ -185,6 +210,8 @@ int main(int count, char **words) {
         report("date.month", "SELECT date_key, substr(iso, 1, 7) FROM calendar", "SELECT day, quantity, amount, cost FROM fact WHERE day BETWEEN ? AND ?", words[3], words[4]);
     else if (job == "query" && count == 6)
         query(words[3], words[4], words[5]);
+    else if (job == "tuples" && count == 5)
+        tuples(words[3], words[4]);
     else
         return 4;
     sqlite3_close(file);

@@ -1,9 +1,10 @@
 #!/usr/bin/env bash
 # Refuses each growth of memory of a load in turn, and of one making, in the built program, and looks at what its file then holds.
 # Build the program first (`rt run` in crates/wh). refused_memory.sh [STEP] [PROGRAM] [NAME]: every growth of a load of records, of a load of sales and of
-# a load of a late record that moves a sale, of a migration, of an upgrade and of a load of sales after it, of a delivery of these three loads, of a report, of a dump and
-# of a check, or one in STEP of them, and of the making, which has more, one in ten times as many; with NAME (making, load, sales, late, migration, upgrade, discounted,
-# delivery, report, dump, check, pages) of that one alone. Of pages, those of an open of a file of over 32 MB, three are refused.
+# a load of a late record that moves a sale, of a migration, of an upgrade and of a load of sales after it, of a delivery of these three loads, of a report, of a query, of
+# a dump and of a check, or one in STEP of them, and of the making, which has more, one in ten times as many; with NAME (making, load, sales, late, migration, upgrade,
+# discounted, delivery, report, query, dump, check, pages, tuples) of that one alone. Of pages, those of an open of a file of over 32 MB, three are refused. The run of
+# tuples, a query whose answer has 5,000 lines, may have so much memory and no more (`ulimit -v`), from what suffices for an open to what suffices for it.
 #
 # A run is answered as with ample memory, with `failed: E8 memory`, or with `failed: E9 store, memory`. After E8 the file holds what it
 # held; the same words again are answered as accepted. After E9 they are answered as accepted or, of a load that was kept, as already
@@ -155,17 +156,21 @@ printf 'sales,s1,%s\nsales,s2,%s\nproduct,p2,%s\n' "$work/known.csv" "$work/unkn
 cp "$work/load.before" "$work/delivery.before"
 refuse_each delivery "$step" judge_delivery deliver "$work/file" "$work/night.csv"
 
-# Words that read print what ample memory prints, or a beginning of it and the fault's line, a report that line alone.
+# Words that read print what ample memory prints, or a beginning of it and the fault's line, a report and a query that line alone.
 judge_reading() {
     begins_as_with_ample_memory
     count_fault
-    [ "$1" != report ] || [ $answered = 0 ] || [ ! -s "$work/told" ] || fail "$where: $(cat "$work/text")"
+    case $1 in
+        report | query) [ $answered = 0 ] || [ ! -s "$work/told" ] || fail "$where: $(cat "$work/text")" ;;
+    esac
 }
 
 cp "$work/late.before" "$work/report.before"
+cp "$work/late.before" "$work/query.before"
 cp "$work/late.before" "$work/dump.before"
 cp "$work/late.before" "$work/check.before"
 refuse_each report "$step" judge_reading report "$work/file" product.brand was 2024-01-01 2024-12-31
+refuse_each query "$step" judge_reading query "$work/file" 2024-01-01 2024-12-31 product.brand date.month --where customer.tier='(no card)'
 refuse_each dump "$step" judge_reading dump "$work/file" product
 refuse_each check "$step" judge_reading check "$work/file"
 
@@ -181,4 +186,42 @@ if [ -z "$alone" ] || [ "$alone" = pages ]; then
         cmp -s "$work/text" "$work/ample" || fail "pages, growth $number refused: $(cat "$work/text")"
     done
     echo "pages: 3 growths refused, all as with ample memory"
+fi
+
+# what words print and their status, in a run that may have so many KB
+limited() {
+    local limit=$1
+    shift
+    [ "$limit" -lt 1000000 ] || fail "with $limit KB: $(cat "$work/text")"
+    answered=0
+    (ulimit -v "$limit" && exec "$program" "$@") > "$work/text" 2> "$work/error" || answered=$?
+}
+
+# 5,000 sales, each of another brand and tier
+if [ -z "$alone" ] || [ "$alone" = tuples ]; then
+    restore load
+    awk 'BEGIN { print "id,day,brand"; for (it = 0; it < 100; it++) printf "Q%d,2024-01-01,Brand %d\n", it, it }' > "$work/brands.csv"
+    awk 'BEGIN { print "id,day,tier"; for (it = 0; it < 50; it++) printf "D%d,2024-01-01,Tier %d\n", it, it }' > "$work/tiers.csv"
+    awk -v "header=$header" 'BEGIN { print header; for (it = 0; it < 5000; it++) printf "T%d,1,2024-06-10,S1,Q%d,D%d,1,10.00,7.00\n", it, it % 100, it / 100 }' > "$work/many.csv"
+    printf 'product,q,%s\ncustomer,d,%s\nsales,m,%s\n' "$work/brands.csv" "$work/tiers.csv" "$work/many.csv" > "$work/night.csv"
+    "$program" deliver "$work/file" "$work/night.csv" > "$work/told" || fail "tuples: $(cat "$work/told")"
+    "$program" query "$work/file" 2024-01-01 2024-12-31 product.brand customer.tier > "$work/ample" || fail "tuples: $(cat "$work/ample")"
+    [ "$(wc -l < "$work/ample")" = 5001 ] || fail "tuples: $(wc -l < "$work/ample") lines"
+    # some 7 MB are the C library's own, and a run with less is ended, of which the shell tells
+    limit=8192 answered=1
+    while [ $answered != 0 ]; do
+        limit=$((limit + 256))
+        limited $limit status "$work/file" 2> "$work/error"
+    done
+    short=0 stopped=0 answered=1
+    while [ $answered != 0 ]; do
+        where="tuples, with $limit KB"
+        limited $limit query "$work/file" 2024-01-01 2024-12-31 product.brand customer.tier
+        [ ! -s "$work/error" ] || fail "$where: $(cat "$work/error")"
+        [ $answered = 0 ] || [ "$(wc -l < "$work/text")" = 1 ] || fail "$where: $(cat "$work/text")"
+        count_fault
+        limit=$((limit + 64))
+    done
+    [ $short -gt 0 ] || fail "tuples: no E8"
+    echo "tuples: $short limits answered with E8, $stopped with E9, and $((limit - 64)) KB as without a limit"
 fi
