@@ -2,6 +2,7 @@
 
 ghost use Rattle.wh_batch.specs.Manifest.{manifest_of};
 ghost use Rattle.wh_batch.specs.ReportList.{reports_of};
+ghost use Rattle.wh_words.specs.QueryList.{queries_of};
 ghost use Rattle.wh_program.specs.Laws.{PoliciesAreReadSo, TrialsAreReadSo, CommandsAreReadSo, LongListsAreBad};
 
 /// Nothing is lost where an input is read to its limit and a byte: a policy, a trial's batch and a command are what the whole file makes
@@ -12,9 +13,10 @@ pub fn inputs_are_told_by_their_beginnings()
     ensures commands { CommandsAreReadSo }
 {}
 
-/// No manifest of more than 64 MB is delivered, and no such list of reports answered: what counts of it has a bad record, whatever it
-/// lists.
+/// No manifest of more than 64 MB is delivered, and no such list of reports or queries answered: what counts of it has a bad record or
+/// line, whatever it lists.
 pub fn long_manifests_are_bad()
     ensures manifests { LongListsAreBad manifest_of }
     ensures reports { LongListsAreBad reports_of }
+    ensures queries { LongListsAreBad queries_of }
 {}
