@@ -12,6 +12,8 @@ use Rattle.wh_policy.specs.declared.attribute.Dim.TheVariants.{Product, Store, C
 use Rattle.wh_policy.specs.declared.format.Format.{Format}
 use Rattle.wh_policy.specs.declared.format.Format.TheVariants.{One, Two}
 use Rattle.wh_policy.specs.declared.policy.Policy.{Policy}
+use Rattle.wh_batch.specs.declared.mode.Mode.{Mode}
+use Rattle.wh_batch.specs.declared.mode.Mode.TheVariants.{Was, Is, Prior}
 use Rattle.wh_explain.specs.declared.views.SalesView.{SalesView}
 use Rattle.wh_explain.specs.declared.views.SalesView.TheVariants.{AsWas, AsIs}
 use Rattle.wh_explain.specs.declared.views.ValueColumn.{ValueColumn}
@@ -74,10 +76,16 @@ abbrev pub shown_value : (prefix : List ℕ) → Dim → (slot : ℕ) → Attrib
 shown_value prefix dim slot attribute None = []
 shown_value prefix dim slot attribute (Some value) = record { shows = value_text dim slot value; name = attribute_name prefix dim attribute.name } ∷ []
 
+-- its column for a mode, where it has one
+abbrev pub mode_columns : Mode → Dim → (slot : ℕ) → Attribute → List ViewColumn
+mode_columns Was dim slot attribute = shown_value [] dim slot attribute (value_was attribute.kind)
+mode_columns Is dim slot attribute = shown_value [] dim slot attribute (value_is attribute.kind)
+mode_columns Prior dim slot attribute = shown_value (codes "prior_") dim slot attribute (value_prior attribute.kind)
+
 -- its columns in a view
 abbrev pub attribute_columns : SalesView → Dim → (slot : ℕ) → Attribute → List ViewColumn
-attribute_columns AsWas dim slot attribute = shown_value [] dim slot attribute (value_was attribute.kind)
-attribute_columns AsIs dim slot attribute = shown_value [] dim slot attribute (value_is attribute.kind) ++ shown_value (codes "prior_") dim slot attribute (value_prior attribute.kind)
+attribute_columns AsWas dim slot attribute = mode_columns Was dim slot attribute
+attribute_columns AsIs dim slot attribute = mode_columns Is dim slot attribute ++ mode_columns Prior dim slot attribute
 
 -- those of attributes, where the first of them has this slot
 abbrev pub columns_from : SalesView → Dim → (slot : ℕ) → List Attribute → List ViewColumn

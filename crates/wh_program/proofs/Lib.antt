@@ -8,6 +8,7 @@ pub mod ListLemmas
 pub mod WarehouseLemmas
 pub mod ExplainLemmas
 pub mod ViewLemmas
+pub mod ViewColumns
 pub mod CheckLemmas
 pub mod DeliveryLemmas
 pub mod ManifestLemmas

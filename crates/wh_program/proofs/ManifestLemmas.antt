@@ -1,12 +1,8 @@
--- A list of entries that are texts is a bad one where it ends in a byte that is in no text.
-use Rattle.std.proofs.Common.{◌≡◌, ◌⊎◌, inl, inr, refl, sym, subst, ap, arith, Bool, true, false, ℕ, zero, suc, ◌+◌, ◌<◌, ◌≤◌, List, [], ◌∷◌, ◌++◌, length, take, encode_utf8, encode_utf8_all, Some, None, Err}
+-- A list of entries that are texts, or of queries, is a bad one where it ends in a byte that is in no text.
+use Rattle.std.proofs.Common.{◌≡◌, ◌⊎◌, inl, inr, refl, arith, Bool, true, false, ℕ, zero, suc, ◌+◌, ◌<◌, ◌≤◌, List, [], ◌∷◌, ◌++◌, length, take, Some, None, Err}
 use Rattle.std.specs.Prelude.{◌&&◌, ◌||◌, ◌==◌, ⊤, if◌then◌else◌, nat_lt}
-use Rattle.std.specs.Str.{is_utf8, IsUtf8, IsCharBoundary}
-use Rattle.std.proofs.lemmas.Str.{IsUtf8-from_is_utf8, IsUtf8-drop, byte_from_char, length-encode}
-use Rattle.std.proofs.lemmas.Bool.Decides.{nat_tests}
-use Rattle.std.specs.Char.{len_utf8}
-use Rattle.std.proofs.Math.Seq.{get_or-append_seam}
-use Rattle.std.proofs.lemmas.List.{drop_at, length-append, length-take}
+use Rattle.std.specs.Str.{is_utf8}
+use Rattle.std.proofs.lemmas.List.{length-append, length-take}
 use Rattle.std.proofs.lemmas.Bool.{lt-ltb}
 use Rattle.csv.specs.declared.parser.Action.{Action}
 use Rattle.csv.specs.declared.parser.Action.TheVariants as act
@@ -18,29 +14,10 @@ use Rattle.wh_batch.specs.Entries.{Writes, entries_from, list_of}
 use Rattle.wh_batch.specs.Manifest.{entry_of}
 use Rattle.wh_batch.specs.ReportList.{listed_report}
 use Rattle.wh_batch.specs.declared.manifest.BadManifest.{BadManifest}
+use Rattle.wh_words.proofs.CutLists.{cut_lists, no_text}
+use Rattle.wh_words.specs.QueryList.{queries_of}
 use Rattle.wh_program.specs.Inputs.{manifest_limit, manifest_part}
 use Rattle.wh_program.specs.Laws.{LongListsAreBad}
-
--- ---- the byte is in no text
-
-ascii-alone : (byte : ℕ) → IsUtf8 (byte ∷ []) → byte < 128
-ascii-alone byte text = of_chars text.0 text.1.1
-  where
-    of_chars : (chars : List ℕ) → encode_utf8_all chars ≡ byte ∷ [] → byte < 128
-    of_chars [] e = absurd (omega (arith, ap length e))
-    of_chars (c ∷ chars) e =
-        let short : len_utf8 c ≤ 1 = omega (arith, ap length e, length-append (encode_utf8 c) (encode_utf8_all chars), length-encode c) in
-        let ascii : c < 128 = grind (arith, nat_tests) in
-        omega (arith, byte_from_char (byte ∷ []) (encode_utf8_all chars) c (sym e) ascii)
-
-pub no_text : (field : List ℕ) → is_utf8 (field ++ 255 ∷ []) ≡ false
-no_text field = elim (is_utf8 (field ++ 255 ∷ [])) as (λ b. is_utf8 (field ++ 255 ∷ []) ≡ b → b ≡ false) [
-  | true ↦ λ is.
-      let boundary : IsCharBoundary (field ++ 255 ∷ []) (length field) = (omega (arith, length-append field (255 ∷ [])), λ within high. rw (get_or-append_seam field 255 [] 0) (omega arith)) in
-      let rest : IsUtf8 (255 ∷ []) = subst IsUtf8 (drop_at field (255 ∷ []) (length field) refl) (IsUtf8-drop (field ++ 255 ∷ []) (length field) (IsUtf8-from_is_utf8 (field ++ 255 ∷ []) is) boundary) in
-      absurd (omega (arith, ascii-alone 255 rest))
-  | false ↦ λ is. refl
-] refl
 
 -- ---- a reader of records
 
@@ -211,3 +188,11 @@ cut_report (a ∷ b ∷ []) cut = refl
 cut_report (a ∷ b ∷ c ∷ []) cut = rw (no_text cut, never_either (is_utf8 a) (is_utf8 b) (is_utf8 c)) refl
 cut_report (a ∷ b ∷ c ∷ d ∷ []) cut = refl
 cut_report (a ∷ b ∷ c ∷ d ∷ e ∷ rest) cut = refl
+
+-- ---- the queries of a list
+
+pub long_queries : LongListsAreBad queries_of
+unfolding manifest_part
+long_queries bytes longer =
+    let past : nat_lt manifest_limit (length bytes) ≡ true = lt-ltb manifest_limit (length bytes) longer in
+    rw past (cut_lists (take manifest_limit bytes))

@@ -15,5 +15,6 @@ pub mod ReportLists
 pub mod QueryLists
 pub mod ReportsRead
 pub mod Viewed
+pub mod ViewsBesideReports
 pub mod Tasks
 pub mod Laws

@@ -10,3 +10,4 @@ pub mod PlainWords
 pub mod TableNames
 pub mod LineLemmas
 pub mod QueryListLemmas
+pub mod CutLists
