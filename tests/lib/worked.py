@@ -170,7 +170,8 @@ there: nothing"""),
 id,day,city
 column 1 "id": 1 to 32 letters A-Z or a-z, digits, -, _ and .
 column 2 "day": a day as YYYY-MM-DD, from 1900-01-01 to 2199-12-31
-column 3 "city": nothing, or up to 60 bytes of UTF-8 without control characters and without ( in front"""),
+column 3 "city": nothing, or up to 60 bytes of UTF-8 without control characters and without ( in front
+a batch has at most 5000 records and 1000000 bytes"""),
     (2, "load w product p1 p1", "accepted 3 p1: 1 records, 0 placeholders"),
     (2, "load w product p2 p2", "accepted 4 p2: 1 records, 0 placeholders"),
     (2, "dump w product", """\

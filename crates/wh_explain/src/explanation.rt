@@ -11,7 +11,7 @@ use crate::records::push_records;
 use crate::refused::push_refusal;
 use crate::row::push_column;
 use crate::shown::push_text;
-use crate::wanted::push_wanted;
+use crate::wanted::{push_limits, push_wanted};
 use std::alloc::{AllocError, Global};
 use wh_admission::Refusal;
 use wh_batch::{Column, CommandKind};
@@ -44,9 +44,10 @@ fn columns_text(alloc: Global, columns: &[Column], years: Years) -> Result<Vec<u
         push_text(&mut text, "\n")?;
     }
     Ok(text)
+    push_limits(&mut text, columns)?;
 }
 
-/// A line for each column: what its fields may hold. The error comes where memory ran out.
+/// A line for each column: what its fields may hold; and how big a batch may be. The error comes where memory ran out.
 pub fn add_columns(
     text: &mut Vec<u8>,
     alloc: Global,

@@ -2,7 +2,7 @@
 
 use crate::shown::{push_number, push_text};
 use std::alloc::AllocError;
-use wh_batch::Holds;
+use wh_batch::{BATCH_LIMIT, Column, Holds, MOST_RECORDS};
 use wh_day::{KEY_LIMIT, TICKET_LIMIT, VALUE_LIMIT};
 use wh_policy::Years;
 
@@ -43,6 +43,29 @@ pub(crate) fn push_years(text: &mut Vec<u8>, years: Years) -> Result<(), AllocEr
     push_number(text, u64::from(years.first))?;
     push_text(text, " to ")?;
     push_number(text, u64::from(years.last))
+}
+
+/// Whether batches with these columns are of sales.
+fn has_sales(columns: &[Column]) -> bool {
+    columns
+        .iter()
+        .any(|column| matches!(column.holds(), Holds::Quantity))
+}
+
+/// How big a batch with these columns may be, and, where its records are sales, that tickets differ.
+pub(crate) fn push_limits(text: &mut Vec<u8>, columns: &[Column]) -> Result<(), AllocError> {
+    push_text(text, "a batch has at most ")?;
+    push_number(text, u64::from(MOST_RECORDS))?;
+    push_text(text, " records and ")?;
+    push_number(text, BATCH_LIMIT as u64)?;
+    push_text(text, " bytes\n")?;
+    if !has_sales(columns) {
+        return Ok(());
+    }
+    push_text(
+        text,
+        "a line of a ticket is sold once, so tickets have to differ over all shops and years\n",
+    )
 }
 
 /// What a field may hold.

@@ -153,7 +153,10 @@ const SUBCOMMANDS: &[Subcommand<'static>] = &[
             FILE,
             ("KIND", "product, store, customer, sales or void"),
             ID,
-            CSV,
+            (
+                "CSV",
+                "the batch, a CSV file with a header: at most 5,000 records and 1,000,000 bytes; tickets differ over all shops and years",
+            ),
         ],
         more: More::Nothing,
     },

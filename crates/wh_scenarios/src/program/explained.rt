@@ -11,6 +11,7 @@ run explain w store
 = column 1 "id": 1 to 32 letters A-Z or a-z, digits, -, _ and .
 = column 2 "day": a day as YYYY-MM-DD, from 1900-01-01 to 2199-12-31
 = column 3 "city": nothing, or up to 60 bytes of UTF-8 without control characters and without ( in front
+= a batch has at most 5000 records and 1000000 bytes
 = status 0
 run explain w sales
 = ticket,line,day,store,product,customer,quantity,amount,cost
@@ -23,6 +24,8 @@ run explain w sales
 = column 7 "quantity": a whole number from -9999 to 9999
 = column 8 "amount": a number such as 12.50 or -3, with up to 7 digits and up to 2 behind a point
 = column 9 "cost": a number such as 12.50 or -3, with up to 7 digits and up to 2 behind a point
+= a batch has at most 5000 records and 1000000 bytes
+= a line of a ticket is sold once, so tickets have to differ over all shops and years
 = status 0
 run explain w void
 = lines are withdrawn in format 2 alone; this warehouse has format 1
@@ -152,6 +155,7 @@ run explain w void
 = ticket,line
 = column 1 "ticket": 1 to 20 letters A-Z or a-z, digits, -, _ and .
 = column 2 "line": a whole number from 1 to 9999
+= a batch has at most 5000 records and 1000000 bytes
 = status 0
 run explain w upgrade
 = the warehouse has format 2 already
@@ -168,6 +172,8 @@ run explain w sales
 = column 8 "amount": a number such as 12.50 or -3, with up to 7 digits and up to 2 behind a point
 = column 9 "cost": a number such as 12.50 or -3, with up to 7 digits and up to 2 behind a point
 = column 10 "discount": a number such as 12.50, without a sign, with up to 7 digits and up to 2 behind a point
+= a batch has at most 5000 records and 1000000 bytes
+= a line of a ticket is sold once, so tickets have to differ over all shops and years
 = status 0
 file s3.csv
 > ticket,line,day,store,product,customer,quantity,amount,cost,discount
