@@ -43,8 +43,8 @@ fn columns_text(alloc: Global, columns: &[Column], years: Years) -> Result<Vec<u
         push_wanted(&mut text, columns[place].holds(), years)?;
         push_text(&mut text, "\n")?;
     }
-    Ok(text)
     push_limits(&mut text, columns)?;
+    Ok(text)
 }
 
 /// A line for each column: what its fields may hold; and how big a batch may be. The error comes where memory ran out.
