@@ -461,6 +461,61 @@ run query k 2024-02-01 2024-03-31 store.city:was product.brand:was
 run check k
 = clean
 = status 0
+
+# Columns of each type, two and three at once: 2 and 6; 6 and 7 as they are; 1, 0 and 3; 5 as it was and is, beside the holiday. No record has P9 or the store, and the cola's supplier has an equals sign.
+file y-p.csv
+> id,day,description,brand,category,department,launched,supplier
+> P1,2024-01-01,Cola,Acme,Drinks,Grocery,2019,North
+> P1,2024-02-01,Cola 1 l,Bolt,Soft drinks,Bottles,2020,South=East
+file y-c.csv
+> id,day,tier,age_band,spend_band
+> C1,2024-01-01,gold,20-29,low
+> C1,2024-03-01,gold,30-39,low
+file y-t.csv
+> ticket,line,day,store,product,customer,quantity,amount,cost
+> T1,1,2024-01-15,S1,P1,C1,2,5.00,3.20
+> T2,1,2024-02-15,S1,P1,,1,2.50,1.60
+> T3,1,2024-12-25,S1,P9,C1,4,10.00,6.40
+run init y policy.toml
+= accepted 1 init: 0 records, 0 placeholders
+= status 0
+run load y product p y-p.csv
+= accepted 2 p: 2 records, 0 placeholders
+= status 0
+run load y customer c y-c.csv
+= accepted 3 c: 2 records, 0 placeholders
+= status 0
+run load y sales t y-t.csv
+= accepted 4 t: 3 records, 2 placeholders
+= status 0
+run query y 2024-01-01 2024-12-31 product.brand product.category:was
+= product.brand:was,product.category:was,lines,quantity,amount,cost,margin
+= (unknown),(unknown),1,4,10.00,6.40,3.60
+= Acme,Drinks,1,2,5.00,3.20,1.80
+= Bolt,Soft drinks,1,1,2.50,1.60,0.90
+= status 0
+run query y 2024-01-01 2024-12-31 product.category:is product.department:was product.department:is
+= product.category:is,product.department:was,product.department:is,lines,quantity,amount,cost,margin
+= (unknown),(unknown),(unknown),1,4,10.00,6.40,3.60
+= Soft drinks,Bottles,Bottles,1,1,2.50,1.60,0.90
+= Soft drinks,Grocery,Bottles,1,2,5.00,3.20,1.80
+= status 0
+run query y 2024-01-01 2024-12-31 product.description product.launched product.supplier:prior
+= product.description:was,product.launched:was,product.supplier:prior,lines,quantity,amount,cost,margin
+= (unknown),(unknown),(none),1,4,10.00,6.40,3.60
+= Cola 1 l,2019,North,2,3,7.50,4.80,2.70
+= status 0
+run query y 2024-01-01 2024-12-31 customer.age_band:was customer.age_band:is date.holiday
+= customer.age_band:was,customer.age_band:is,date.holiday,lines,quantity,amount,cost,margin
+= (no card),(no card),(none),1,1,2.50,1.60,0.90
+= 20-29,30-39,(none),1,2,5.00,3.20,1.80
+= 30-39,30-39,Christmas Day,1,4,10.00,6.40,3.60
+= status 0
+run query y 2024-01-01 2024-12-31 store.city date.month --where product.supplier:is=South=East
+= store.city:was,date.month,lines,quantity,amount,cost,margin
+= (unknown),2024-01,1,2,5.00,3.20,1.80
+= (unknown),2024-02,1,1,2.50,1.60,0.90
+= status 0
 "#;
 
 /// Tables, after those. Worked by hand: a description of more than 24 characters with quotes and a comma, a city with an umlaut, and a brand that is called as the last line is.
