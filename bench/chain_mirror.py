@@ -5,8 +5,10 @@ chain_mirror.py N DSN DSN DSN [PROGRAM]: the connection strings name empty datab
 The files aren't delivered but written by SQLite, as `wh` would make them (12 x N sales would take it an hour): `--small` has `wh check` look
 at one of 500 sales. Then come the first mirror, one of nothing new, one of a night of 5,000 sales in the newest file, and five questions,
 each asked three times (the least time counts), of the chain and of one plain table with the same rows and indexes on the day and the ticket.
-Prints seconds by the clock."""
+Prints seconds by the clock, and of processor time, that of the servers included, which have to be on this machine; and which files a plan reaches."""
 import os
+import re
+import resource
 import shutil
 import sqlite3
 import subprocess
@@ -39,6 +41,9 @@ QUESTIONS = {
     "the months": ("SELECT month, amount FROM wh.sales_by_month", ALL.format("month", "plain")),
     "a ticket": (A_TICKET.format("wh.sales_as_was"), A_TICKET.format("plain")),
 }
+
+# the processes that a server has for no session
+SERVERS_OWN = re.compile(r"postgres: (?:[^ ]+: )?(?:archiver|autovacuum|background|checkpointer|logical|startup|stats|walwriter)")
 
 
 class File:
@@ -97,13 +102,49 @@ class File:
         self.database.close()
 
 
+class Servers:
+    """The processor time of what servers do for sessions, by their first processes, which count their children's once these have ended."""
+
+    def __init__(self, dsns):
+        self.pids = [int(psql(dsn, "SELECT pg_read_file('postmaster.pid')").split()[0]) for dsn in dsns]
+
+    def are_serving(self):
+        """Whether a session, or a worker of one, hasn't ended yet."""
+        children = [child for pid in self.pids for child in read_proc(f"{pid}/task/{pid}/children").split()]
+        return not all(SERVERS_OWN.match(read_proc(f"{child}/cmdline") or "postgres: startup") for child in children)
+
+    def spent(self):
+        """Seconds of processor time, those of the commands that were run included."""
+        while self.are_serving():
+            time.sleep(0.05)
+        ticks = sum(int(it) for pid in self.pids for it in read_proc(f"{pid}/stat").rpartition(")")[2].split()[11:15])
+        here = resource.getrusage(resource.RUSAGE_CHILDREN)
+        return ticks / os.sysconf("SC_CLK_TCK") + here.ru_utime + here.ru_stime
+
+
+def read_proc(name):
+    """A file of the system's on a process; nothing where the process has ended."""
+    try:
+        with open(f"/proc/{name}", encoding="utf-8", errors="replace") as file:
+            return file.read()
+    except OSError:
+        return ""
+
+
 def run(*words):
-    """What a command prints, and seconds by the clock; it has to succeed."""
-    began = time.time()
+    """What a command prints; it has to succeed."""
     done = subprocess.run(words, capture_output=True, text=True)
     if done.returncode:
         sys.exit(done.stdout + done.stderr)
-    return done.stdout, time.time() - began
+    return done.stdout
+
+
+def timed(servers, what, *words):
+    """Prints what a command takes."""
+    before, began = servers.spent(), time.time()
+    run(*words)
+    clock = time.time() - began
+    print(f"{what}: {clock:.1f} s by the clock, {servers.spent() - before:.1f} s of processor time", flush=True)
 
 
 def small(program):
@@ -115,7 +156,7 @@ def small(program):
         file.begin()
         file.sell(3, 500)
         file.close()
-        print(run(program, "check", path)[0], end="")
+        print(run(program, "check", path), end="")
 
 
 def write_files(folder, program, sales):
@@ -132,27 +173,45 @@ def write_files(folder, program, sales):
     return paths
 
 
+def words_of_psql(dsn, *statements):
+    return ["psql", "-d", dsn, "-XAtq", "-v", "ON_ERROR_STOP=1", *(word for text in statements for word in ("-c", text))]
+
+
 def psql(dsn, *statements):
-    return run("psql", "-d", dsn, "-XAtq", "-v", "ON_ERROR_STOP=1", *(word for text in statements for word in ("-c", text)))
+    return run(*words_of_psql(dsn, *statements))
 
 
-def ask(dsn, question):
-    """The rows of a question, and its least time of three."""
-    by_file = "on" if "by_file" in question else "off"
-    answers = [psql(dsn, f"SET enable_partitionwise_aggregate = {by_file}", "\\timing on", question)[0].splitlines() for _ in range(3)]
-    return sorted(answers[0][:-1]), min(float(answer[-1].split()[1]) / 1000 for answer in answers)
+def by_file(question):
+    return f"SET enable_partitionwise_aggregate = {'on' if 'by_file' in question else 'off'}"
 
 
-def mirrors(paths, dsns):
+def ask(servers, dsn, question):
+    """The rows of a question, and its least times of three: by the clock, and of processor time."""
+    answers, spent = [], []
+    for _ in range(3):
+        before = servers.spent()
+        answers.append(psql(dsn, by_file(question), "\\timing on", question).splitlines())
+        spent.append(servers.spent() - before)
+    return sorted(answers[0][:-1]), min(float(answer[-1].split()[1]) / 1000 for answer in answers), min(spent)
+
+
+def reached(dsn, question):
+    """Which files a plan reaches, and how many of them while it reaches others."""
+    plan = psql(dsn, by_file(question), f"EXPLAIN VERBOSE {question}")
+    files = sorted(set(re.findall(r"(?:on|from|FROM) (?:wh\.)?(wh_2024_\d\d)", plan)))
+    return f"{len(files)} files, {plan.count('Async Foreign Scan')} of them at once with others"
+
+
+def mirrors(servers, paths, dsns):
     """The mirrors, with a night between two of them."""
     on = [word for place, path in enumerate(paths) for word in ("--on", f"{dsns[place % 3]}={path}")]
     words = [os.path.join(TOP, "mirror", "wh-mirror"), "--chain", dsns[0], *paths, *on]
-    print(f"the first mirror: {run(*words)[1]:.1f} s", flush=True)
-    print(f"nothing new: {run(*words)[1]:.1f} s", flush=True)
+    timed(servers, "the first mirror", *words)
+    timed(servers, "nothing new", *words)
     newest = File(paths[-1])
     newest.sell(12, deliver.SIZE)
     newest.close()
-    print(f"a night of {deliver.SIZE} sales: {run(*words)[1]:.1f} s", flush=True)
+    timed(servers, f"a night of {deliver.SIZE} sales", *words)
 
 
 def main():
@@ -161,18 +220,20 @@ def main():
         return
     sales, dsns = int(sys.argv[1]), sys.argv[2:5]
     program = sys.argv[5] if len(sys.argv) > 5 else os.path.join(TOP, "crates", "wh", "out", "wh")
+    servers = Servers(dsns)
     with tempfile.TemporaryDirectory() as folder:
         began = time.time()
         paths = write_files(folder, program, sales)
-        print(f"12 files of {sales} sales are written: {time.time() - began:.1f} s", flush=True)
-        mirrors(paths, dsns)
-    print(f"the plain table: {psql(dsns[0], *PLAIN.split(';')[:-1])[1]:.1f} s", flush=True)
+        print(f"12 files of {sales} sales are written: {time.time() - began:.1f} s, {sum(map(os.path.getsize, paths)) / 1e6:.0f} MB", flush=True)
+        mirrors(servers, paths, dsns)
+    timed(servers, "the plain table", *words_of_psql(dsns[0], *PLAIN.split(";")[:-1]))
     for what, (of_chain, of_plain) in QUESTIONS.items():
-        rows, chain = ask(dsns[0], of_chain)
-        plain_rows, plain = ask(dsns[0], of_plain)
+        rows, *chain = ask(servers, dsns[0], of_chain)
+        plain_rows, *plain = ask(servers, dsns[0], of_plain)
         if rows != plain_rows:
             sys.exit(f"{what}: the answers differ")
-        print(f"{what}: {chain:.2f} s, plain {plain:.2f} s", flush=True)
+        took = " ".join(f"{name} {clock:.2f} s by the clock, {spent:.2f} s of processor time;" for name, clock, spent in (("chain", *chain), ("plain", *plain)))
+        print(f"{what}: {took} {reached(dsns[0], of_chain)}", flush=True)
 
 
 if __name__ == "__main__":
