@@ -4,7 +4,9 @@ use Rattle.std.specs.List.{AllByRecursion}
 use Rattle.std.specs.List.Sorted.{IsPermutation, IsStrictlySortedBy}
 use Rattle.wh_day.specs.Reading.{◌>>=◌}
 use Rattle.wh_policy.specs.declared.policy.Policy.{Policy}
-use Rattle.wh_history.specs.Accepted.{Accepted, standing}
+use Rattle.wh_policy.specs.declared.record.SaleRecord.{SaleRecord}
+use Rattle.wh_policy.specs.declared.record.VoidRecord.{VoidRecord}
+use Rattle.wh_history.specs.Accepted.{Accepted, Withdraws, standing, standing_but}
 use Rattle.wh_admission.specs.Admission.{current_policy}
 use Rattle.wh_report.specs.Asked.{Asked}
 use Rattle.wh_report.specs.Label.{sold_as_asked}
@@ -17,7 +19,7 @@ use Rattle.wh_report.specs.Summary.{Sold, by_bytes, summed}
 use Rattle.wh_report.specs.Text.{summary_text, titles}
 use Rattle.wh_report.specs.declared.subject.Reading.{Reading}
 use Rattle.wh_report.specs.declared.subject.Subject.{Subject}
-use Rattle.wh_query.specs.Answer.{is_in, measures_of, answer, query}
+use Rattle.wh_query.specs.Answer.{labels_in, is_in, measures_of, answer, query}
 use Rattle.wh_query.specs.Asked.{ColumnAsked, ConditionAsked, QueryAsked, column_name, report_asked, query_reads, same_column}
 use Rattle.wh_query.specs.Reading.{mode_meant, read_query}
 use Rattle.wh_batch.specs.QueryWords.{ColumnGiven, ConditionGiven}
@@ -91,6 +93,16 @@ AnyOrder = (sales others : List (Labelled (List (List ℕ)))) → IsPermutation 
 -- The labels of the lines rise: each tuple comes once, in order.
 abbrev pub LinesRise : Type 0
 LinesRise = (commands : List Accepted) (q : QueryAsked) → IsStrictlySortedBy by_texts (map (λ l. l.0) (answer commands q))
+
+-- those of some sales that are in the slice, each with its labels
+abbrev pub labelled_in : List Accepted → QueryAsked → List SaleRecord → List (Labelled (List (List ℕ)))
+labelled_in commands q sales = map (λ s. record { label = labels_in commands q.columns s; measures = measures_of s }) (filter (is_in commands q) sales)
+
+-- What queries no longer sum after a batch of voids are the sales of its lines, and no others; the others keep their labels, and so their place in the slice.
+abbrev pub VoidsTakeTheirSales : Type 0
+VoidsTakeTheirSales = (commands : List Accepted) (c : Accepted) (voids : List VoidRecord) (q : QueryAsked)
+    → c.content ≡ Withdraws voids
+    → answer (commands ++ c ∷ []) q ≡ lines by_texts (labelled_in commands q (standing_but voids (standing commands)))
 
 -- ---- queries that words ask for
 

@@ -1,6 +1,6 @@
 //! What holds of every query. The laws speak of the definitions alone and do nothing.
 
-ghost use Rattle.wh_query.specs.Laws.{ReportsHaveLines, ReportsAreQueries, LinesAddUp, SumsAgree, TablesEndWithTotals, TablesAreReports, SlicesAreLines, AnyOrder, LinesRise, QueriesHaveReadings, NoModeIsNeeded, ReadAsRequests};
+ghost use Rattle.wh_query.specs.Laws.{ReportsHaveLines, ReportsAreQueries, LinesAddUp, SumsAgree, TablesEndWithTotals, TablesAreReports, SlicesAreLines, AnyOrder, LinesRise, VoidsTakeTheirSales, QueriesHaveReadings, NoModeIsNeeded, ReadAsRequests};
 
 /// What a report sums are lines, by labels that are texts. By one column and without conditions the lines of a query are those of
 /// the report by this column.
@@ -35,6 +35,11 @@ pub fn any_order()
 /// The tuples of labels come once each, in order by bytes, column by column.
 pub fn lines_rise()
     ensures { LinesRise }
+{}
+
+/// After a batch of voids a query sums the sales that it summed before, but the withdrawn lines; each other keeps its labels.
+pub fn voids_take_their_sales()
+    ensures { VoidsTakeTheirSales }
 {}
 
 /// A query that is read can be asked: each of its columns has a reading under the policy, also of a condition. No attribute of the
