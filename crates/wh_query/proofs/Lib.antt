@@ -5,6 +5,7 @@ pub mod Texts
 pub mod Columns
 pub mod Totals
 pub mod QueryLaws
+pub mod ColumnOrder
 pub mod VoidedQueries
 pub mod Counting
 pub mod Read

@@ -1,5 +1,5 @@
 -- What holds of every query.
-use Rattle.std.specs.Prelude.{◌≡◌, ℕ, Bool, true, false, List, [], ◌∷◌, ◌++◌, map, filter, Some, None, Ok, is_some, bytes_eq}
+use Rattle.std.specs.Prelude.{◌≡◌, ℕ, zero, suc, Bool, true, false, List, [], ◌∷◌, ◌++◌, map, filter, Some, None, Ok, is_some, bytes_eq}
 use Rattle.std.specs.List.{AllByRecursion}
 use Rattle.std.specs.List.Sorted.{IsPermutation, IsStrictlySortedBy}
 use Rattle.wh_day.specs.Reading.{◌>>=◌}
@@ -93,6 +93,18 @@ AnyOrder = (sales others : List (Labelled (List (List ℕ)))) → IsPermutation 
 -- The labels of the lines rise: each tuple comes once, in order.
 abbrev pub LinesRise : Type 0
 LinesRise = (commands : List Accepted) (q : QueryAsked) → IsStrictlySortedBy by_texts (map (λ l. l.0) (answer commands q))
+
+-- two neighbours exchanged, the first of them behind n others
+abbrev pub exchanged : {X : Type 0} → ℕ → List X → List X
+exchanged zero [] = []
+exchanged zero (x ∷ []) = x ∷ []
+exchanged zero (x ∷ y ∷ xs) = y ∷ x ∷ xs
+exchanged (suc n) [] = []
+exchanged (suc n) (x ∷ xs) = x ∷ exchanged n xs
+
+-- The order of the columns only orders the lines: with two neighbouring columns exchanged they are those that there were, each with these two labels exchanged and with the same figures, in another order. Such exchanges, repeated, lead to any order of the columns.
+abbrev pub ColumnsOrderLines : Type 0
+ColumnsOrderLines = (commands : List Accepted) (q : QueryAsked) (n : ℕ) → IsPermutation (map (λ l. (exchanged n l.0, l.1)) (answer commands q)) (answer commands (by_columns (exchanged n q.columns) q))
 
 -- those of some sales that are in the slice, each with its labels
 abbrev pub labelled_in : List Accepted → QueryAsked → List SaleRecord → List (Labelled (List (List ℕ)))

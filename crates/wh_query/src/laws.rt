@@ -1,6 +1,6 @@
 //! What holds of every query. The laws speak of the definitions alone and do nothing.
 
-ghost use Rattle.wh_query.specs.Laws.{ReportsHaveLines, ReportsAreQueries, LinesAddUp, SumsAgree, TablesEndWithTotals, TablesAreReports, SlicesAreLines, AnyOrder, LinesRise, VoidsTakeTheirSales, QueriesHaveReadings, NoModeIsNeeded, ReadAsRequests};
+ghost use Rattle.wh_query.specs.Laws.{ReportsHaveLines, ReportsAreQueries, LinesAddUp, SumsAgree, TablesEndWithTotals, TablesAreReports, SlicesAreLines, AnyOrder, LinesRise, ColumnsOrderLines, VoidsTakeTheirSales, QueriesHaveReadings, NoModeIsNeeded, ReadAsRequests};
 
 /// What a report sums are lines, by labels that are texts. By one column and without conditions the lines of a query are those of
 /// the report by this column.
@@ -35,6 +35,12 @@ pub fn any_order()
 /// The tuples of labels come once each, in order by bytes, column by column.
 pub fn lines_rise()
     ensures { LinesRise }
+{}
+
+/// The order of the columns only orders the lines: with two neighbouring columns exchanged, which repeated leads to any order of
+/// them, the lines are the same but for these two labels, which are exchanged, and the order in which they stand.
+pub fn columns_order_lines()
+    ensures { ColumnsOrderLines }
 {}
 
 /// After a batch of voids a query sums the sales that it summed before, but the withdrawn lines; each other keeps its labels.
