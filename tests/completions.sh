@@ -64,6 +64,8 @@ wh load f sales |load f sales
 wh load f sales s1 examples/sa|load f sales s1 examples/sales.csv
 wh plan f m|plan f migrate
 wh explain f sa|explain f sales
+wh explain f in|explain f init
+wh explain f init wid|explain f init wider.toml
 wh explain f sales examples/la|explain f sales examples/late.csv examples/late.txt
 wh dump f fa|dump f fact fact2
 wh status a%|status a%20b#c.wh

@@ -7,6 +7,7 @@ use crate::kind::push_kind;
 use crate::left_out::LeftOut;
 use crate::line::TracedLines;
 use crate::members::push_first_mentions;
+use crate::policy::{push_bad_policy, push_rules};
 use crate::records::push_records;
 use crate::refused::push_refusal;
 use crate::row::push_column;
@@ -16,7 +17,7 @@ use std::alloc::{AllocError, Global};
 use wh_admission::Refusal;
 use wh_batch::{Column, CommandKind};
 use wh_history::Edit;
-use wh_policy::{Format, Policy, Years};
+use wh_policy::{Format, Policy, PolicyFault, Years};
 use wh_rows::{MemberKey, MemberRow};
 
 /// What was sent, and what it is judged by.
@@ -82,6 +83,39 @@ pub fn add_kind(
     ensures { OnOk result (Continues text.old.items text.new.items) }
 {
     let lines = kind_text(alloc, kind, policy, format)?;
+    text.extend_from_slice(&lines)
+}
+
+fn rules_text(alloc: Global) -> Result<Vec<u8>, AllocError> {
+    let mut text = Vec::new(alloc);
+    push_rules(&mut text)?;
+    Ok(text)
+}
+
+/// The lines on what any policy is. The error comes where memory ran out.
+pub fn add_rules(text: &mut Vec<u8>, alloc: Global) -> Result<(), AllocError>
+    ensures { OnOk result (Continues text.old.items text.new.items) }
+{
+    let lines = rules_text(alloc)?;
+    text.extend_from_slice(&lines)
+}
+
+fn bad_policy_text(alloc: Global, fault: PolicyFault, bytes: &[u8]) -> Result<Vec<u8>, AllocError> {
+    let mut text = Vec::new(alloc);
+    push_bad_policy(&mut text, alloc, fault, bytes)?;
+    Ok(text)
+}
+
+/// The lines on the fault of a policy: where it stands, and the rule that it breaks. The error comes where memory ran out.
+pub fn add_bad_policy(
+    text: &mut Vec<u8>,
+    alloc: Global,
+    fault: PolicyFault,
+    bytes: &[u8],
+) -> Result<(), AllocError>
+    ensures { OnOk result (Continues text.old.items text.new.items) }
+{
+    let lines = bad_policy_text(alloc, fault, bytes)?;
     text.extend_from_slice(&lines)
 }
 

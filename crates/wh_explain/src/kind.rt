@@ -1,10 +1,11 @@
 //! What the commands take that columns don't tell.
 
-use crate::shown::{push_number, push_text};
+use crate::policy::push_size;
+use crate::shown::push_text;
 use crate::wanted::push_years;
 use std::alloc::AllocError;
 use wh_batch::{CommandKind, Kind};
-use wh_policy::{Attribute, Dim, Format, POLICY_LIMIT, Policy};
+use wh_policy::{Attribute, Dim, Format, Policy};
 
 /// Why there are no voids in format 1.
 pub(crate) const NO_VOIDS: &str =
@@ -36,9 +37,7 @@ fn push_kept(text: &mut Vec<u8>, policy: &Policy) -> Result<(), AllocError> {
 
 /// What a migration takes.
 fn push_policy(text: &mut Vec<u8>, policy: &Policy) -> Result<(), AllocError> {
-    push_text(text, "a policy in TOML of at most ")?;
-    push_number(text, POLICY_LIMIT as u64)?;
-    push_text(text, " bytes\n")?;
+    push_size(text)?;
     push_kept(text, policy)?;
     push_text(text, "the calendar keeps the years ")?;
     push_years(text, policy.years)?;

@@ -24,7 +24,9 @@ mod shown;
 mod views;
 mod wanted;
 
-pub use explanation::{SentCommand, add_columns, add_kind, add_refusal, add_warnings};
+pub use explanation::{
+    SentCommand, add_bad_policy, add_columns, add_kind, add_refusal, add_rules, add_warnings,
+};
 pub use header::push_names;
 pub use left_out::{LeftOut, values_left_out};
 pub use line::{TracedLines, refused_lines};

@@ -34,6 +34,37 @@ fn rule(fault: PolicyFault) -> &'static str {
     }
 }
 
+/// The faults of a policy that is TOML.
+const FAULTS: [PolicyFault; 10] = [
+    PolicyFault::Missing,
+    PolicyFault::UnknownKey,
+    PolicyFault::BadName,
+    PolicyFault::BadType,
+    PolicyFault::TooMany,
+    PolicyFault::NamedTwice,
+    PolicyFault::ProfileOutside,
+    PolicyFault::ProfileMixed,
+    PolicyFault::BadYears,
+    PolicyFault::BadHoliday,
+];
+
+/// How big the file of a policy may be.
+pub(crate) fn push_size(text: &mut Vec<u8>) -> Result<(), AllocError> {
+    push_text(text, "a policy in TOML of at most ")?;
+    push_number(text, POLICY_LIMIT as u64)?;
+    push_text(text, " bytes\n")
+}
+
+/// What any policy is: all rules.
+pub(crate) fn push_rules(text: &mut Vec<u8>) -> Result<(), AllocError> {
+    push_size(text)?;
+    for fault in FAULTS {
+        push_text(text, rule(fault))?;
+        push_text(text, "\n")?;
+    }
+    Ok(())
+}
+
 /// Where the fault of a policy stands, what is allowed there, and, where it is no text at all, why.
 pub(crate) fn push_bad_policy(
     text: &mut Vec<u8>,

@@ -9,7 +9,7 @@ use Rattle.wh_program.specs.Answer.{Printed, status_code, write_line}
 use Rattle.wh_program.specs.Inputs.{Files, Refusals}
 use Rattle.wh_program.specs.Readings.{SaysWriteFailed, answer_after}
 use Rattle.wh_program.specs.Run.{GoesOut, IsCutOff, Prints}
-use Rattle.wh_words.specs.Task.{Task, Trial, Init, Load, Migrate, Upgrade, Deliver, Plan, Explain, Records, Query, Report, Reports, Queries, Dump, Views, Check, Status, Session}
+use Rattle.wh_words.specs.Task.{Task, Trial, Init, Load, Migrate, Upgrade, Deliver, Plan, Explain, ExplainInit, Records, Query, Report, Reports, Queries, Dump, Views, Check, Status, Session}
 use Rattle.wh_program.specs.Tasks.{Stores, Runs, SparesOthers, WhenShut}
 use Rattle.wh_program.specs.Warehouse.{Told, PrintsAnswer, printed}
 use Rattle.wh_program.specs.declared.lines.answer.Status.{Status as Ending}
@@ -85,6 +85,7 @@ not_run holds refuses before same prints goes_out e (Deliver file manifest) is p
 not_run holds refuses before same prints goes_out e (Plan file kind id path) is p went = λ content stood. (Err e, inr (record { same = stood; tells = tt }), p)
 not_run holds refuses before same prints goes_out e (Explain file kind None) is p went = λ content stood. (Err e, inr (record { same = stood; tells = tt }), p)
 not_run holds refuses before same prints goes_out e (Explain file kind (Some path)) is p went = λ content stood. (Err e, inr (record { same = stood; tells = tt }), p)
+not_run holds refuses before same prints goes_out e (ExplainInit file policy) is p went = (is, (Err e, tt, p))
 not_run holds refuses before same prints goes_out e (Report file words) is p went = λ content stood. (Err e, inr (record { same = stood; tells = tt }), p)
 not_run holds refuses before same prints goes_out e (Records file dim from) is p went = λ content stood. (Err e, inr (record { same = stood; tells = tt }), p)
 not_run holds refuses before same prints goes_out e (Query file words) is p went = λ content stood. (Err e, inr (record { same = stood; tells = tt }), p)

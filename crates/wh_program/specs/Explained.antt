@@ -4,6 +4,8 @@ use Rattle.std.specs.Fmt.{decimal}
 use Rattle.std.specs.List.{join_by}
 use Rattle.wh_policy.specs.declared.format.Format.{Format}
 use Rattle.wh_policy.specs.declared.format.Format.TheVariants.{One, Two}
+use Rattle.wh_policy.specs.Policy.{read_policy}
+use Rattle.wh_policy.specs.declared.fault.PolicyFault.{PolicyFault}
 use Rattle.wh_policy.specs.declared.policy.Policy.{Policy}
 use Rattle.wh_batch.specs.Columns.{Column}
 use Rattle.wh_batch.specs.Layouts.{columns_of}
@@ -20,9 +22,9 @@ use Rattle.wh_engine.specs.Previewed.{IsPreviewOf}
 use Rattle.wh_engine.specs.declared.fault.Fault.{Fault}
 use Rattle.wh_engine.specs.declared.preview.Preview.{Preview}
 use Rattle.wh_explain.specs.Added.{Continues}
-use Rattle.wh_program.specs.Answer.{Printed, done}
+use Rattle.wh_program.specs.Answer.{Printed, done, refused, failed, no_file_line, policy_line}
 use Rattle.wh_words.specs.WrongWord.{line}
-use Rattle.wh_program.specs.Inputs.{Files, Refusals, as_input}
+use Rattle.wh_program.specs.Inputs.{Files, Refusals, as_input, policy_limit, up_to}
 use Rattle.wh_program.specs.Reply.{fault_answer}
 use Rattle.wh_program.specs.Standing.{DatabaseContent, Holds, Rests, Standing, left_standing}
 use Rattle.wh_program.specs.Warehouse.{Told, Opens, AnswersWith, AnswersWork, LacksFile}
@@ -79,6 +81,27 @@ first_of_kind Upgrade policy format = []
 pub record IsDescribed (kind : CommandKind) (limits : Limits) (commands : List Accepted) (told : Told) (after : Standing) : Type 0 where
   pub same : after ≡ Rests (Holds limits commands)
   pub tells : IfOk told (Begins (done (first_of_kind kind (current_policy commands) (format_of commands))))
+
+-- ---- a policy, without a warehouse
+
+-- what the first command of a warehouse is answered: it has no records
+abbrev pub making_receipt : Receipt
+making_receipt = record { number = 1; records = 0; placeholders = 0 }
+
+-- what comes first of a policy: `init` would take it, or refuses it with this line
+abbrev pub first_of_policy : Result Policy PolicyFault → Printed
+first_of_policy (Ok policy) = done (acceptable_line making_receipt)
+first_of_policy (Err fault) = refused (policy_line fault)
+
+-- and of the one in a file
+abbrev pub first_of_policy_file : (path : List ℕ) → Option (List ℕ) → Printed
+first_of_policy_file path None = failed (no_file_line path)
+first_of_policy_file path (Some bytes) = first_of_policy (read_policy bytes)
+
+-- The policy in a file is explained, by the file as far as it is read; or else what any policy is, of which the first line is no matter.
+abbrev pub IsPolicyExplained : Files → (path : Option (List ℕ)) → Printed → Type 0
+IsPolicyExplained holds None a = Begins (done []) a
+IsPolicyExplained holds (Some path) a = (file : Option (List ℕ)) × up_to policy_limit holds path file × Begins (first_of_policy_file path file) a
 
 -- ---- the word
 

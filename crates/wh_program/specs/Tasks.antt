@@ -4,14 +4,14 @@ use Rattle.wh_batch.specs.declared.kind.CommandKind.TheVariants.{Batch, Migratio
 use Rattle.wh_program.specs.Answer.{Printed, AnswersTrial, refused, session_line}
 use Rattle.wh_program.specs.Check.{AnswersCheck}
 use Rattle.wh_program.specs.Delivery.{AnswersDelivery, LacksManifest}
-use Rattle.wh_program.specs.Explained.{AnswersExplanation, LacksInputAsked}
+use Rattle.wh_program.specs.Explained.{AnswersExplanation, IsPolicyExplained, LacksInputAsked}
 use Rattle.wh_program.specs.Inputs.{Files, Refusals, up_to, batch_limit, policy_limit, as_input}
 use Rattle.wh_program.specs.Readings.{AnswersReport, AnswersQuery, AnswersRecords, AnswersDump}
 use Rattle.wh_program.specs.ReportLists.{AnswersReports, LacksList}
 use Rattle.wh_program.specs.QueryLists.{AnswersQueries, LacksQueries}
 use Rattle.wh_program.specs.Standing.{DatabaseContent, IsOfCommands, Standing, Rests}
 use Rattle.wh_program.specs.Viewed.{AnswersViews}
-use Rattle.wh_words.specs.Task.{Task, Trial, Init, Load, Migrate, Upgrade, Deliver, Plan, Explain, Records, Query, Report, Reports, Queries, Dump, Views, Check, Status, Session}
+use Rattle.wh_words.specs.Task.{Task, Trial, Init, Load, Migrate, Upgrade, Deliver, Plan, Explain, ExplainInit, Records, Query, Report, Reports, Queries, Dump, Views, Check, Status, Session}
 use Rattle.wh_program.specs.Warehouse.{Told, Makes, Sends, Plans, AnswersWith, AnswersUpgrade, AnswersStatus, IsJudgedFirst, PrintsShut, IsNoFileOr, LacksFile, LacksPolicy}
 
 -- what a host stores under its names
@@ -33,6 +33,7 @@ warehouse_of (Upgrade file id) = Some file
 warehouse_of (Deliver file manifest) = Some file
 warehouse_of (Plan file kind id path) = Some file
 warehouse_of (Explain file kind path) = Some file
+warehouse_of (ExplainInit file policy) = Some file
 warehouse_of (Records file dim from) = Some file
 warehouse_of (Query file words) = Some file
 warehouse_of (Report file words) = Some file
@@ -69,6 +70,7 @@ Runs holds refuses before after same prints goes_out (Upgrade file id) = RunsOve
 Runs holds refuses before after same prints goes_out (Deliver file manifest) = RunsAlong before file (λ cut content told. AnswersDelivery holds refuses (after file) cut content file manifest told) goes_out
 Runs holds refuses before after same prints goes_out (Plan file kind id path) = RunsOver before file (λ content told. AnswersWith (as_input kind holds) refuses (after file) (Plans kind id) content file path told) prints
 Runs holds refuses before after same prints goes_out (Explain file kind path) = RunsOver before file (λ content told. AnswersExplanation holds refuses (after file) content file kind path told) prints
+Runs holds refuses before after same prints goes_out (ExplainInit file policy) = same × ((told : Told) × IfOk told (IsPolicyExplained holds policy) × prints told)
 Runs holds refuses before after same prints goes_out (Records file dim from) = RunsOver before file (λ content told. AnswersRecords refuses (after file) content file dim from told) prints
 Runs holds refuses before after same prints goes_out (Query file words) = RunsOver before file (λ content told. AnswersQuery refuses (after file) content file words told) prints
 Runs holds refuses before after same prints goes_out (Report file words) = RunsOver before file (λ content told. AnswersReport refuses (after file) content file words told) prints
@@ -88,6 +90,7 @@ IsToldBefore holds (Migrate file id policy) a = LacksFile (as_input Migration ho
 IsToldBefore holds (Deliver file manifest) a = LacksManifest holds manifest a
 IsToldBefore holds (Plan file kind id path) a = LacksFile (as_input kind holds) path a
 IsToldBefore holds (Explain file kind path) a = LacksInputAsked holds kind path a
+IsToldBefore holds (ExplainInit file policy) a = IsPolicyExplained holds policy a
 IsToldBefore holds (Reports file list) a = LacksList holds list a
 IsToldBefore holds (Queries file list) a = LacksQueries holds list a
 IsToldBefore holds (Session file) a = a ≡ refused session_line

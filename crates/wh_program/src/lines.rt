@@ -135,7 +135,8 @@ fn push_policy_line(text: &mut Vec<u8>, fault: PolicyFault) -> Result<(), AllocE
     push_named_line(text, "refused: E4 policy, ", policy_fault_name(fault))
 }
 
-fn policy_line(alloc: Global, fault: PolicyFault) -> Result<Vec<u8>, AllocError>
+/// The line of a policy that has a fault.
+pub fn policy_line(alloc: Global, fault: PolicyFault) -> Result<Vec<u8>, AllocError>
     ensures { IfOk result (λ line. line.items ≡ policy_line fault) }
 {
     let mut line = Vec::new(alloc);

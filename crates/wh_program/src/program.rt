@@ -18,7 +18,7 @@ use crate::lines::{MEMORY_LINE, NO_TEXT_LINE, SESSION_LINE};
 use crate::output::{print, print_answer, print_usage};
 use crate::visits::delivery::deliver;
 use crate::visits::dump::print_dump;
-use crate::visits::explain::explain;
+use crate::visits::explain::{explain, explain_init};
 use crate::visits::queries::queries;
 use crate::visits::query::visit_query;
 use crate::visits::records::records;
@@ -70,6 +70,7 @@ fn run_task<H: Host, W: Write>(alloc: Global, task: Task, host: &mut H, out: &mu
         Task::Explain { file, kind, path } => {
             print_answer(out, explain(alloc, file, kind, path, host))
         }
+        Task::ExplainInit { policy, .. } => print_answer(out, explain_init(alloc, policy, host)),
         Task::Records { file, dim, from } => {
             print_answer(out, records(alloc, file, dim, from, host))
         }

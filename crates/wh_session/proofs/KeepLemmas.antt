@@ -6,7 +6,7 @@ use Rattle.wh_program.specs.Run.{GoesOut, Prints}
 use Rattle.wh_program.specs.Tasks.{IsToldBefore, Runs, RunsShut, SparesOthers, Stores, WhenShut, warehouse_of}
 use Rattle.wh_program.specs.Warehouse.{IsNoFileOr, PrintsShut, Told, printed}
 use Rattle.wh_words.specs.CommandLine.{is_operand}
-use Rattle.wh_words.specs.Task.{Task, Trial, Init, Load, Migrate, Upgrade, Deliver, Plan, Explain, Records, Query, Report, Reports, Queries, Dump, Views, Check, Status, Session as SessionAsked, asked_by}
+use Rattle.wh_words.specs.Task.{Task, Trial, Init, Load, Migrate, Upgrade, Deliver, Plan, Explain, ExplainInit, Records, Query, Report, Reports, Queries, Dump, Views, Check, Status, Session as SessionAsked, asked_by}
 use Rattle.wh_words.specs.Line.{Meaning, Passed, NoCommand, Words, meaning_of}
 use Rattle.wh_session.specs.Line.{with_file}
 use Rattle.wh_session.specs.Session.{AllGo, Fails, Goes, IsAnswered, KeepsTo, LosesInput, RunsWords, Session}
@@ -23,6 +23,7 @@ none_same holds refuses before after same prints goes_out (Upgrade file id) none
 none_same holds refuses before after same prints goes_out (Deliver file manifest) none runs = cc
 none_same holds refuses before after same prints goes_out (Plan file kind id path) none runs = cc
 none_same holds refuses before after same prints goes_out (Explain file kind path) none runs = cc
+none_same holds refuses before after same prints goes_out (ExplainInit file policy) none runs = cc
 none_same holds refuses before after same prints goes_out (Records file dim from) none runs = cc
 none_same holds refuses before after same prints goes_out (Query file words) none runs = cc
 none_same holds refuses before after same prints goes_out (Report file words) none runs = cc

@@ -22,9 +22,9 @@ use Rattle.wh_rows.specs.Names.{table_of_name}
 use Rattle.wh_day.specs.Reading.{◌>>=◌, unless_fault}
 use Rattle.wh_words.specs.CommandLine.{CommandLine, Sent, trial_app, explain_app, records_app, query_app, init_app, load_app, migrate_app, upgrade_app, deliver_app, report_app, reports_app, queries_app, dump_app, views_app, status_app, session_app, plan_app, check_app, is_given, is_operand, named, named_by, program_app}
 use Rattle.wh_words.specs.CommandLine as line
-use Rattle.wh_words.specs.Task.{Task, asked_by, each_given, faults_in, from_asked, no_line, query_by, query_of, records_from, task_of, when_none, with_line}
+use Rattle.wh_words.specs.Task.{Task, asked_by, each_given, explain_in_asked, faults_in, from_asked, no_line, query_by, query_of, records_from, task_of, when_none, with_line}
 use Rattle.wh_words.specs.Task as task
-use Rattle.wh_words.specs.WrongWord.{no_dimension_line, no_kind_line, no_command_kind_line, no_mode_line, no_column_line, no_condition_line, too_many_columns_line, too_many_conditions_line, no_table_line}
+use Rattle.wh_words.specs.WrongWord.{no_dimension_line, no_kind_line, no_command_kind_line, no_explained_kind_line, no_mode_line, no_column_line, no_condition_line, too_many_columns_line, too_many_conditions_line, no_table_line}
 use Rattle.wh_words.proofs.CommandFaults.{not_asked, no_words}
 use Rattle.wh_words.proofs.Operands.{plain as plain_word}
 use Rattle.wh_words.proofs.Program.{bare, commands, commands_on_literals, leaf, explain_met, records_met, query_met, init_met, load_met, migrate_met, upgrade_met, deliver_met, report_met, reports_met, queries_met, dump_met, views_met, status_met, session_met, plan_met, check_met, trial_met}
@@ -70,6 +70,10 @@ unless_for : (file : Option Text) (b : Bool) (fault : Text) (r : Result Task Tex
 unless_for file true fault r so = so
 unless_for file false fault r so = tt
 
+choice_for : (file : Option Text) (b : Bool) (yes no : Result Task Text) → IsFor file yes → IsFor file no → IsFor file (cond b yes no)
+choice_for file true yes no so other = so
+choice_for file false yes no so other = other
+
 -- what it asks for is about the same
 asks_for : (l : CommandLine) → IsFor (file_in l) (task_of l)
 asks_for (line.Trial dimension path policy) = found_for None (λ dim. task.Trial dim path policy) (dim_of_word dimension) (no_dimension_line dimension) (λ dim. refl)
@@ -79,7 +83,9 @@ asks_for (line.Migrate file id policy) = refl
 asks_for (line.Upgrade file id) = refl
 asks_for (line.Deliver file manifest) = refl
 asks_for (line.Plan file kind id path) = found_for (Some file) (λ k. task.Plan file k id path) (command_kind_of_word kind) (no_command_kind_line kind) (λ k. refl)
-asks_for (line.Explain file kind path) = found_for (Some file) (λ k. task.Explain file k path) (command_kind_of_word kind) (no_command_kind_line kind) (λ k. refl)
+asks_for (line.Explain file kind path) =
+    choice_for (Some file) (bytes_eq kind (codes "init")) (Ok (task.ExplainInit file path)) (explain_in_asked file kind path) refl
+    (found_for (Some file) (λ k. task.Explain file k path) (command_kind_of_word kind) (no_explained_kind_line kind) (λ k. refl))
 asks_for (line.Records file dimension from) =
     then_for (Some file) (ok_or (dim_of_word dimension) (no_dimension_line dimension)) (records_from file from) (λ dim. then_for (Some file) (from_asked from) (λ number. Ok (task.Records file dim number)) (λ number. refl))
 asks_for (line.Report file attribute mode from to) = found_for (Some file) (λ m. task.Report file (record { attribute = attribute; mode = m; from = from; to = to })) (mode_of_word mode) (no_mode_line mode) (λ m. refl)

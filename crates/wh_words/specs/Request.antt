@@ -63,6 +63,7 @@ task_in (found.Upgrade file id) = task.Upgrade file.now id.now
 task_in (found.Deliver file manifest) = task.Deliver file.now manifest.now
 task_in (found.Plan file kind id path) = task.Plan file.now kind id.now path.now
 task_in (found.Explain file kind path) = task.Explain file.now kind (optional_text path)
+task_in (found.ExplainInit file policy) = task.ExplainInit file.now (optional_text policy)
 task_in (found.Records file dim from) = task.Records file.now dim from
 task_in (found.Report file asked) = task.Report file.now (report_words asked)
 task_in (found.Query file asked) = task.Query file.now (query_words asked)

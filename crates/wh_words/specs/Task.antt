@@ -1,5 +1,5 @@
 -- What the words of a command are to do.
-use Rattle.std.specs.Prelude.{◌≢◌, ◌⊎◌, ℕ, Bool, List, [], ◌∷◌, Option, Some, None, option_map, Result, Ok, Err, ok_or, nat_le, length}
+use Rattle.std.specs.Prelude.{◌≢◌, ◌⊎◌, ℕ, Bool, List, [], ◌∷◌, Option, Some, None, option_map, Result, Ok, Err, ok_or, nat_le, length, codes, bytes_eq, if◌then◌else◌}
 use Rattle.wh_policy.specs.declared.attribute.Dim.{Dim}
 use Rattle.wh_policy.specs.Words.{dim_of_word}
 use Rattle.wh_batch.specs.declared.kind.Kind.{Kind}
@@ -15,7 +15,7 @@ use Rattle.clap.specs.Words.{IsAmong, Kinds, fault_of, subcommand_of}
 use Rattle.clap.specs.declared.error.kind.ErrorKind.TheVariants.{DisplayHelp, DisplayVersion}
 use Rattle.wh_rows.specs.declared.table.Table.{Table}
 use Rattle.wh_rows.specs.Names.{table_of_name}
-use Rattle.wh_words.specs.WrongWord.{no_dimension_line, no_kind_line, no_command_kind_line, no_mode_line, no_number_line, no_column_line, no_condition_line, too_many_columns_line, too_many_conditions_line, no_table_line}
+use Rattle.wh_words.specs.WrongWord.{no_dimension_line, no_kind_line, no_command_kind_line, no_explained_kind_line, no_mode_line, no_number_line, no_column_line, no_condition_line, too_many_columns_line, too_many_conditions_line, no_table_line}
 use Rattle.wh_words.specs.CommandLine.{CommandLine, program_app, named}
 use Rattle.wh_words.specs.CommandLine as line
 
@@ -43,6 +43,7 @@ pub data Task : Type 0 where
   Deliver : (file manifest : List ℕ) → Task
   Plan : (file : List ℕ) → CommandKind → (id path : List ℕ) → Task
   Explain : (file : List ℕ) → CommandKind → (path : Option (List ℕ)) → Task
+  ExplainInit : (file : List ℕ) → (policy : Option (List ℕ)) → Task
   Records : (file : List ℕ) → Dim → (from : ℕ) → Task
   Report : (file : List ℕ) → ReportWords → Task
   Query : (file : List ℕ) → QueryWords → Task
@@ -63,8 +64,13 @@ load_asked file kind id path = ok_or (option_map (λ k. Load file k id path) (ki
 abbrev pub plan_asked : (file kind id path : List ℕ) → Result Task (List ℕ)
 plan_asked file kind id path = ok_or (option_map (λ k. Plan file k id path) (command_kind_of_word kind)) (no_command_kind_line kind)
 
+-- an explanation of what the warehouse in the file takes
+abbrev pub explain_in_asked : (file kind : List ℕ) → (path : Option (List ℕ)) → Result Task (List ℕ)
+explain_in_asked file kind path = ok_or (option_map (λ k. Explain file k path) (command_kind_of_word kind)) (no_explained_kind_line kind)
+
+-- or of the policy that makes one
 abbrev pub explain_asked : (file kind : List ℕ) → (path : Option (List ℕ)) → Result Task (List ℕ)
-explain_asked file kind path = ok_or (option_map (λ k. Explain file k path) (command_kind_of_word kind)) (no_command_kind_line kind)
+explain_asked file kind path = if bytes_eq kind (codes "init") then Ok (ExplainInit file path) else explain_in_asked file kind path
 
 -- the number of the first record that is wanted: 0 where none is given
 abbrev pub from_asked : Option (List ℕ) → Result ℕ (List ℕ)

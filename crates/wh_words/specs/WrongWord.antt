@@ -18,6 +18,9 @@ no_kind_line word = wrong_word_line (codes "KIND") word (codes "product, store, 
 abbrev pub no_command_kind_line : List ℕ → List ℕ
 no_command_kind_line word = wrong_word_line (codes "KIND") word (codes "product, store, customer, sales, void, migrate and upgrade")
 
+abbrev pub no_explained_kind_line : List ℕ → List ℕ
+no_explained_kind_line word = wrong_word_line (codes "KIND") word (codes "product, store, customer, sales, void, init, migrate and upgrade")
+
 abbrev pub no_mode_line : List ℕ → List ℕ
 no_mode_line word = wrong_word_line (codes "MODE") word (codes "was, is and prior")
 

@@ -103,15 +103,18 @@ const SUBCOMMANDS: &[Subcommand<'static>] = &[
         about: "Says whether a file would be accepted and, if not, where and why",
         example: "Example: wh explain shop.wh sales examples/shop/torn.csv",
         operands: &[
-            FILE,
+            (
+                "FILE",
+                "the warehouse, a file that `wh init` made; for init any name, and no file is opened",
+            ),
             (
                 "KIND",
-                "product, store, customer, sales, void, migrate or upgrade",
+                "product, store, customer, sales, void, init, migrate or upgrade",
             ),
         ],
         more: More::Optional(
             "INPUT",
-            "the batch's file, or the new policy's; leave it out to print the header and what each column may hold",
+            "the batch's file, or the policy's; leave it out to print the header and what each column may hold, or the rules of a policy",
         ),
     },
     Subcommand {

@@ -8,12 +8,13 @@ ghost use Rattle.wh_words.specs.Given.{words_in};
 ghost use Rattle.wh_words.specs.WrongWord.{wrong_word_line};
 ghost use Rattle.wh_words.specs.CommandLine.{CommandLine, program_app, words_of, has_operands, is_given, named, named_trial, named_explain, named_records, named_init, named_sent, named_load, named_migrate, named_upgrade, named_deliver, named_plan, named_report, named_query, named_reports, named_queries, named_dump, named_views, named_check, named_status, named_session};
 ghost use Rattle.wh_words.specs.Request.{optional_text, sent_of, line_of, asked_in, Asks, IsDeclined, IsReadAs};
-ghost use Rattle.wh_words.specs.Task.{trial_asked, load_asked, plan_asked, explain_asked, records_from, records_asked, report_asked, dump_asked, faults_in, asked_by};
+ghost use Rattle.wh_words.specs.Task.{trial_asked, load_asked, plan_asked, explain_asked, explain_in_asked, records_from, records_asked, report_asked, dump_asked, faults_in, asked_by};
 
 use crate::app::program_app;
 use crate::query::{AskedQuery, query_request};
 use crate::wrong_word::{
-    COMMAND_KINDS, DIMENSIONS, KINDS, MODES, NO_COMMAND_LINE, NUMBERS, TABLES, wrong_word_line,
+    COMMAND_KINDS, DIMENSIONS, EXPLAINED_KINDS, KINDS, MODES, NO_COMMAND_LINE, NUMBERS, TABLES,
+    wrong_word_line,
 };
 use clap::ArgMatches;
 use clap::error::ErrorKind;
@@ -72,6 +73,11 @@ pub enum Task<'a> {
         file: &'a str,
         kind: CommandKind,
         path: Option<&'a str>,
+    },
+    /// Whether a warehouse could be made under the policy in a file, and why not; or what a policy is. Nothing is asked of `file`.
+    ExplainInit {
+        file: &'a str,
+        policy: Option<&'a str>,
     },
     /// The records that carry a dimension's members to another file, from the one of this number on.
     Records {
@@ -553,7 +559,22 @@ fn plan_request<'a>(alloc: Global, sent: SentOperands<'a>) -> Result<Request<'a>
     }
 }
 
-/// The explanation of a command of a kind.
+/// The explanation of what the warehouse in `file` takes for a command of a kind.
+fn explain_in_request<'a>(
+    alloc: Global,
+    file: &'a str,
+    kind: &str,
+    path: Option<&'a str>,
+) -> Result<Request<'a>, AllocError>
+    ensures { IfOk result (λ request. asked_in request ≡ Some (explain_in_asked file.now kind.now (optional_text path.entry))) }
+{
+    match CommandKind::from_word(kind) {
+        Some(kind) => Ok(Request::Task(Task::Explain { file, kind, path })),
+        None => wrong_word(alloc, "KIND", kind, EXPLAINED_KINDS),
+    }
+}
+
+/// The explanation of a command of a kind, or of the policy that makes a warehouse.
 fn explain_request<'a>(
     alloc: Global,
     file: &'a str,
@@ -562,10 +583,10 @@ fn explain_request<'a>(
 ) -> Result<Request<'a>, AllocError>
     ensures { IfOk result (λ request. asked_in request ≡ Some (explain_asked file.now kind.now (optional_text path.entry))) }
 {
-    match CommandKind::from_word(kind) {
-        Some(kind) => Ok(Request::Task(Task::Explain { file, kind, path })),
-        None => wrong_word(alloc, "KIND", kind, COMMAND_KINDS),
+    if kind == "init" {
+        return Ok(Request::Task(Task::ExplainInit { file, policy: path }));
     }
+    explain_in_request(alloc, file, kind, path)
 }
 
 /// The request for the records of a dimension from one on, whose number a word may write.

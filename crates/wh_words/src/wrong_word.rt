@@ -14,6 +14,10 @@ pub const KINDS: &str = "product, store, customer, sales and void";
 /// What KIND can be for a plan.
 pub const COMMAND_KINDS: &str = "product, store, customer, sales, void, migrate and upgrade";
 
+/// What KIND can be for an explanation.
+pub const EXPLAINED_KINDS: &str =
+    "product, store, customer, sales, void, init, migrate and upgrade";
+
 /// What MODE can be.
 pub const MODES: &str = "was, is and prior";
 

@@ -2,17 +2,22 @@
 
 ghost use Rattle.std.specs.Prelude.{◌≡◌, IfOk, [], string_bytes};
 ghost use Rattle.wh_batch.specs.Layouts.{columns_of};
-ghost use Rattle.wh_program.specs.Answer.{done, refused};
-ghost use Rattle.wh_program.specs.Explained.{Begins, acceptable_line, preview_answer, header_line, first_of_batch, first_of_kind};
+ghost use Rattle.wh_policy.specs.Policy.{read_policy};
+ghost use Rattle.wh_program.specs.Answer.{done, refused, policy_line};
+ghost use Rattle.wh_program.specs.Explained.{Begins, acceptable_line, making_receipt, preview_answer, header_line, first_of_batch, first_of_kind, first_of_policy};
 ghost use Rattle.wh_program.specs.Reply.{refused_line};
 
 use crate::lines::answer::{Answer, Status};
-use crate::lines::{fault_answer, push_refused};
+use crate::lines::{fault_answer, policy_line, push_refused};
 use std::alloc::{AllocError, Global};
 use wh_batch::{Column, CommandKind, Kind, columns_of};
+use wh_day::ParseError;
 use wh_engine::{Fault, Preview, Receipt, Refusal};
-use wh_explain::{SentCommand, add_columns, add_kind, add_refusal, add_warnings, push_names};
-use wh_policy::{Format, Policy};
+use wh_explain::{
+    SentCommand, add_bad_policy, add_columns, add_kind, add_refusal, add_rules, add_warnings,
+    push_names,
+};
+use wh_policy::{Format, Policy, PolicyFault};
 
 /// The line of an input that would be accepted.
 fn acceptable_line(alloc: Global, receipt: &Receipt) -> Result<String, AllocError>
@@ -55,6 +60,52 @@ pub fn explained(
         Err(Fault::Refused(why)) => unacceptable(alloc, &why, sent),
         Err(fault) => fault_answer(alloc, fault),
     }
+}
+
+/// The answer to a policy under which `init` would make a warehouse.
+fn policy_acceptable(alloc: Global) -> Result<Answer, AllocError>
+    ensures { IfOk result (Begins (done (acceptable_line making_receipt))) }
+{
+    let receipt = Receipt {
+        number: 1,
+        records: 0,
+        placeholders: 0,
+    };
+    let line = acceptable_line(alloc, &receipt)?;
+    Ok(Answer::new(Status::Done, line.into_bytes()))
+}
+
+/// The answer to the bytes of a policy that `init` would refuse for this fault.
+fn policy_unacceptable(
+    alloc: Global,
+    fault: PolicyFault,
+    bytes: &[u8],
+) -> Result<Answer, AllocError>
+    ensures { IfOk result (Begins (refused (policy_line fault))) }
+{
+    let mut lines = policy_line(alloc, fault)?;
+    add_bad_policy(&mut lines, alloc, fault, bytes)?;
+    Ok(Answer::new(Status::Refused, lines))
+}
+
+/// The answer to the bytes of a policy, as `init` would judge them.
+pub fn policy_explained(alloc: Global, bytes: &[u8]) -> Result<Answer, AllocError>
+    ensures { IfOk result (Begins (first_of_policy (read_policy bytes.now))) }
+{
+    match Policy::read(alloc, bytes) {
+        Ok(_) => policy_acceptable(alloc),
+        Err(ParseError::Fault(fault)) => policy_unacceptable(alloc, fault, bytes),
+        Err(ParseError::Memory) => Err(AllocError),
+    }
+}
+
+/// What any policy is.
+pub fn policy_described(alloc: Global) -> Result<Answer, AllocError>
+    ensures { IfOk result (Begins (done [])) }
+{
+    let mut text = Vec::new(alloc);
+    add_rules(&mut text, alloc)?;
+    Ok(Answer::new(Status::Done, text))
 }
 
 /// The header of a batch with these columns.

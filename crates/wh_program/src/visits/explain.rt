@@ -1,18 +1,18 @@
-//! What an input would be answered, and why; or what a kind takes.
+//! What an input would be answered, and why; or what a kind takes, or a policy is.
 
-ghost use Rattle.std.specs.Prelude.{◌≡◌, Some};
+ghost use Rattle.std.specs.Prelude.{◌≡◌, Some, IfOk};
 ghost use Rattle.wh_engine.specs.Previewed.{IsPreviewed};
 ghost use Rattle.wh_engine.specs.Scanned.{EngineReadsThrough, WasClean, WhenReady};
-ghost use Rattle.wh_program.specs.Explained.{IsExplained, IsDescribed, Explains, AnswersExplanation, LacksInputAsked};
+ghost use Rattle.wh_program.specs.Explained.{IsExplained, IsDescribed, Explains, AnswersExplanation, IsPolicyExplained, LacksInputAsked};
 ghost use Rattle.wh_program.specs.Inputs.{as_input};
 ghost use Rattle.wh_words.specs.Request.{optional_text};
 ghost use Rattle.wh_program.specs.Standing.{DatabaseContent, Rests};
 ghost use Rattle.wh_program.specs.Warehouse.{AnswersWith, AnswersShut, IsNoFileOr, LacksFile};
 ghost use Rattle.wh_program.specs.Tasks.{SparesOthers};
 
-use crate::host::Host;
+use crate::host::{Host, file_of};
 use crate::lines::answer::Answer;
-use crate::lines::explaining::{description_answer, explained};
+use crate::lines::explaining::{description_answer, explained, policy_described, policy_explained};
 use crate::lines::no_file;
 use crate::visits::opened::{Work, work_on};
 use crate::visits::warehouse::input_of;
@@ -21,7 +21,7 @@ use std::alloc::{AllocError, Global};
 use wh_engine::{CommandKind, Engine, Fault, Preview, Refusal};
 use wh_explain::{LeftOut, SentCommand, TracedLines, refused_lines, values_left_out};
 use wh_plan::Edits;
-use wh_policy::{Format, Policy};
+use wh_policy::{Format, POLICY_LIMIT, Policy};
 use wh_rows::tables;
 use wh_store::Cursor;
 
@@ -210,5 +210,29 @@ pub fn explain<H: Host>(
     match path {
         Some(path) => explain_input(alloc, file, kind, path, host),
         None => work_on(alloc, file, Describing { kind }, host),
+    }
+}
+
+/// Explains the policy in a file, without a warehouse.
+fn explain_policy<H: Host>(alloc: Global, path: &str, host: &H) -> Result<Answer, AllocError>
+    ensures { IfOk result (IsPolicyExplained (H.holds host.now) (Some path.now)) }
+{
+    let Some(bytes) = file_of(alloc, path, POLICY_LIMIT, host)? else {
+        return no_file(alloc, path);
+    };
+    policy_explained(alloc, &bytes)
+}
+
+/// Tells whether `init` would take the policy in a file, and why not; or, with no file, what any policy is. No warehouse is looked for.
+pub fn explain_init<H: Host>(
+    alloc: Global,
+    path: Option<&str>,
+    host: &H,
+) -> Result<Answer, AllocError>
+    ensures { IfOk result (IsPolicyExplained (H.holds host.now) (optional_text path.entry)) }
+{
+    match path {
+        Some(path) => explain_policy(alloc, path, host),
+        None => policy_described(alloc),
     }
 }

@@ -278,6 +278,92 @@ run explain w store quoted.csv
 = status 2
 "#;
 
+/// The policy of a warehouse that is still to be made.
+pub const FIRST_POLICY: &str = r#"
+policy good.toml
+run explain w init good.toml
+= would be accepted: 0 records, 0 placeholders
+= status 0
+stands w
+= no
+policy p.toml name = "brand"->name = "Bezeichnung"
+run init w p.toml
+= refused: E4 policy, P4 bad name
+= status 2
+run explain w init p.toml
+= refused: E4 policy, P4 bad name
+= [[product]] number 2, key "name": the text 'Bezeichnung' stands there; a name has 1 to 24 characters: a letter a to z, then letters a to z, digits or _; it is neither id nor day
+= status 2
+policy p.toml day = "2024-12-25"->day = 2024-12-25
+run explain w init p.toml
+= refused: E4 policy, P11 bad holiday
+= [[holiday]] number 1, key "day": a TOML datetime stands there; a holiday's day is "YYYY-MM-DD" with quotes, within the years and on no other holiday's day, and its name has 1 to 60 bytes and doesn't begin with (
+= status 2
+policy p.toml name = "brand"->name = "brand
+run explain w init p.toml
+= refused: E4 policy, P1 not toml
+= line 7: invalid string; a policy is a text in TOML
+= status 2
+long p.toml 65537
+run explain w init p.toml
+= refused: E4 policy, P1 not toml
+= the file has more than 65536 bytes, which is the most that is allowed
+= status 2
+run init w nowhere.toml
+= failed: F1 file, nowhere.toml
+= status 3
+run explain w init nowhere.toml
+= failed: F1 file, nowhere.toml
+= status 3
+stands w
+= no
+
+# All rules, in the order of the faults.
+run explain w init
+= a policy in TOML of at most 65536 bytes
+= wanted: first_year, last_year and at least one [[product]], [[store]] and [[customer]], each with name and type; a [[holiday]] with day and name
+= the keys are first_year, last_year, product, store, customer and holiday, those of an attribute name and type, those of a holiday day and name
+= a name has 1 to 24 characters: a letter a to z, then letters a to z, digits or _; it is neither id nor day
+= a type is a whole number from 0 to 7, without quotes
+= a dimension has at most 6 attributes
+= no two attributes of a dimension have the same name
+= types 4 and 5 are for attributes of customer alone
+= customer has attributes of type 4 or of type 5, not of both
+= first_year and last_year are whole numbers from 1900 to 2199 without quotes, the first not after the last, and at most 30 years
+= a holiday's day is "YYYY-MM-DD" with quotes, within the years and on no other holiday's day, and its name has 1 to 60 bytes and doesn't begin with (
+= status 0
+stands w
+= no
+
+# A warehouse that is there isn't looked at, nor is a file that is none.
+run init w good.toml
+= accepted 1 init: 0 records, 0 placeholders
+= status 0
+run explain w init good.toml
+= would be accepted: 0 records, 0 placeholders
+= status 0
+run explain good.toml init good.toml
+= would be accepted: 0 records, 0 placeholders
+= status 0
+policy p.toml last_year = 2026->last_year = 2200
+session w
+> explain init good.toml
+> explain init p.toml
+= would be accepted: 0 records, 0 placeholders
+= status 0
+= refused: E4 policy, P10 bad years
+= key "last_year": the number 2200 stands there; it is too late; first_year and last_year are whole numbers from 1900 to 2199 without quotes, the first not after the last, and at most 30 years
+= status 2
+= status 2
+run status w
+= format 1
+= commands 1
+= changes 0
+= facts 0
+= members product 0 store 0 customer 0
+= status 0
+"#;
+
 /// Policies, and a batch with a record too many.
 pub const POLICIES: &str = r#"
 policy policy.toml

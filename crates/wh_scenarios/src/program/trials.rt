@@ -242,11 +242,17 @@ ended status w v
 = a text
 = status 4
 
+run plan w init p1 p1.csv
+= error: KIND is 'init', and none of product, store, customer, sales, void, migrate and upgrade
+= status 4
 run explain w shop p.csv
-= error: KIND is 'shop', and none of product, store, customer, sales, void, migrate and upgrade
+= error: KIND is 'shop', and none of product, store, customer, sales, void, init, migrate and upgrade
 = status 4
 run explain w shop
-= error: KIND is 'shop', and none of product, store, customer, sales, void, migrate and upgrade
+= error: KIND is 'shop', and none of product, store, customer, sales, void, init, migrate and upgrade
+= status 4
+ended explain w init p.toml more
+= a text
 = status 4
 ended explain w
 = a text
