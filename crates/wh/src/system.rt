@@ -18,8 +18,8 @@ const HEADER: &[u8] = b"SQLite format 3\0";
 /// How many bytes a page of a new file has.
 const PAGE: u64 = 4096;
 
-/// The most pages of a file that stay in memory: 256 MB.
-const MOST_PAGES: u64 = 65_536;
+/// The most pages of a file that stay in memory: 64 MB.
+const MOST_PAGES: u64 = 16_384;
 
 /// As many where memory is short, and the most written ones before they go to the log: 32 MB.
 const FEW_PAGES: usize = 8192;
