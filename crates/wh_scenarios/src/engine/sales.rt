@@ -384,4 +384,48 @@ send sales s
 = refused: BadDay at 1
 same
 = the same
+
+# Others' tickets stand between those of a batch, and one is damaged. It is met where the batch has its line.
+make flat
+load p0 p2
+batch s1
+= accepted 5: 2 records, 1 placeholders
+load p3 p8
+batch s2
+= accepted 12: 1 records, 2 placeholders
+close
+sql UPDATE fact SET quantity = 'two' WHERE ticket = 'T1'
+open
+= opened
+send sales s3
+> ticket,line,day,store,product,customer,quantity,amount,cost
+> T3,1,2024-07-02,S1,P1,,1,2.50,1.60
+> T0,2,2024-07-02,S1,P1,,1,2.50,1.60
+= accepted 13: 2 records, 0 placeholders
+send sales s4
+> ticket,line,day,store,product,customer,quantity,amount,cost
+> T4,1,2024-07-02,S1,P1,,1,2.50,1.60
+> T2,1,2024-07-02,S1,P1,,1,2.50,1.60
+= refused: LineThere(2)
+send sales s4
+> ticket,line,day,store,product,customer,quantity,amount,cost
+> T4,1,2024-07-02,S1,P1,,1,2.50,1.60
+> T1,1,2024-07-02,S1,P1,,1,2.50,1.60
+= Damaged(Fact)
+close
+
+# The first line of the least ticket, and of the greatest.
+sql UPDATE fact SET quantity = 2 WHERE ticket = 'T1'
+open
+= opened
+send sales s4
+> ticket,line,day,store,product,customer,quantity,amount,cost
+> T1,2,2024-07-02,S1,P1,,1,2.50,1.60
+> T0,1,2024-07-02,S1,P1,,1,2.50,1.60
+= refused: LineThere(2)
+send sales s4
+> ticket,line,day,store,product,customer,quantity,amount,cost
+> T3,1,2024-07-02,S1,P1,,1,2.50,1.60
+> T20,1,2024-07-02,S1,P1,,1,2.50,1.60
+= refused: LineThere(1)
 ";

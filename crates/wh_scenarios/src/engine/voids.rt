@@ -112,6 +112,26 @@ send sales s6
 > ticket,line,day,store,product,customer,quantity,amount,cost,discount
 > T1,1,2024-02-05,S1,P1,,2,5.00,3.20,0
 = refused: LineThere(1)
+close
+
+# A damaged row of a withdrawn line is met where a batch has the line, and not where that is between the batch's tickets.
+sql UPDATE void SET command = 'two'
+open
+= opened
+send sales s6
+> ticket,line,day,store,product,customer,quantity,amount,cost,discount
+> T1,1,2024-02-05,S1,P1,,2,5.00,3.20,0
+= Damaged(Void)
+send sales s6
+> ticket,line,day,store,product,customer,quantity,amount,cost,discount
+> T11,1,2024-07-05,S1,P1,C9,2,5.00,3.20,0
+> T10,1,2024-07-05,S1,P1,C9,2,5.00,3.20,0
+= accepted 24: 2 records, 0 placeholders
+send sales s7
+> ticket,line,day,store,product,customer,quantity,amount,cost,discount
+> T12,1,2024-07-05,S1,P1,C9,2,5.00,3.20,0
+> T0,2,2024-07-05,S1,P1,C9,2,5.00,3.20,0
+= accepted 25: 2 records, 0 placeholders
 ";
 
 /// What comes after voids: late records and policies move the facts that stand, and members stay.
