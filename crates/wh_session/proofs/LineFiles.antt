@@ -70,9 +70,9 @@ unless_for : (file : Option Text) (b : Bool) (fault : Text) (r : Result Task Tex
 unless_for file true fault r so = so
 unless_for file false fault r so = tt
 
-choice_for : (file : Option Text) (b : Bool) (yes no : Result Task Text) → IsFor file yes → IsFor file no → IsFor file (cond b yes no)
-choice_for file true yes no so other = so
-choice_for file false yes no so other = other
+choice_for : (file : Option Text) (b : Bool) (here there : Result Task Text) → IsFor file here → IsFor file there → IsFor file (cond b here there)
+choice_for file true here there so other = so
+choice_for file false here there so other = other
 
 -- what it asks for is about the same
 asks_for : (l : CommandLine) → IsFor (file_in l) (task_of l)
