@@ -41,11 +41,13 @@ fn several(rt: HostRuntime) -> Result<(), Fail> {
 }
 
 #[test]
+fn first_policy(rt: HostRuntime) -> Result<(), Fail> {
+    check::<ProgramDriver>(rt.alloc(), &[explained_faults::FIRST_POLICY])
+}
+
+#[test]
 fn policies(rt: HostRuntime) -> Result<(), Fail> {
-    check::<ProgramDriver>(
-        rt.alloc(),
-        &[explained_faults::FIRST_POLICY, explained_faults::POLICIES],
-    )
+    check::<ProgramDriver>(rt.alloc(), &[explained_faults::POLICIES])
 }
 
 #[test]
