@@ -1,4 +1,5 @@
 pub mod Admission
+pub mod Said
 pub mod Answers
 pub mod Steps
 pub mod Checked

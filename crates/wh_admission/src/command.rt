@@ -1,13 +1,16 @@
 //! Commands, and what is answered to them.
 
-ghost use Rattle.std.specs.Prelude.{◌≡◌};
+ghost use Rattle.std.specs.Prelude.{◌≡◌, IfOk};
 ghost use Rattle.wh_admission.specs.Admission.{kept_bytes};
+ghost use Rattle.wh_admission.specs.Repeated.{receipt_of_known, row_of_command};
 
 use sqlite_value::value::Bytes;
+use std::alloc::{AllocError, Global};
 use thiserror::Error;
 use wh_batch::{BatchFault, CommandKind};
 use wh_day::Value;
 use wh_policy::PolicyFault;
+use wh_rows::CommandRow;
 
 /// A batch, a policy or an upgrade as it is sent, under a name that its sender gives it.
 #[derive(Debug, Drop)]
@@ -29,6 +32,34 @@ impl Command {
             CommandKind::Batch(_) | CommandKind::Migration => self.bytes.as_slice(),
             CommandKind::Upgrade => &[],
         }
+    }
+
+    /// Its row among the accepted commands. The row of one that brings placeholders has their number besides.
+    pub fn row(&self, alloc: Global, number: u64, records: u64) -> Result<CommandRow, AllocError>
+        ensures { IfOk result (λ row. row ≡ row_of_command self.now number records) }
+    {
+        Ok(CommandRow {
+            number,
+            id: self.id.copy()?,
+            kind: Value::new(alloc, self.kind.word())?,
+            bytes: Bytes::from_slice(alloc, self.kept_bytes())?,
+            records,
+            placeholders: 0,
+        })
+    }
+
+    /// The receipt that was kept under its id, in this row. It came again where kind and bytes are the same too.
+    pub fn receipt_again(&self, row: &CommandRow) -> Result<Receipt, Refusal>
+        ensures { result ≡ receipt_of_known row.now self.now }
+    {
+        if row.kind.as_str() == self.kind.word() && row.bytes.as_slice() == self.kept_bytes() {
+            return Ok(Receipt {
+                number: row.number,
+                records: row.records,
+                placeholders: row.placeholders,
+            });
+        }
+        Err(Refusal::Reused)
     }
 }
 

@@ -2,6 +2,8 @@
 #![tactic(auto)]
 
 mod command;
+mod content;
 pub mod laws;
 
 pub use command::{Command, Limit, Receipt, Refusal, Reply};
+pub use content::Content;

@@ -17,6 +17,7 @@ use Rattle.wh_batch.specs.declared.kind.Kind.TheVariants.{Dimension, Sales, Void
 use Rattle.wh_history.specs.Keys.{at_place}
 use Rattle.wh_history.specs.Accepted.{Accepted, Content, Governs, Describes, Sells, Upgrades, policy_after, format_of, sold, sold_by, records_by, placeholders_by, Withdraws, standing, withdrawn_by}
 use Rattle.wh_history.specs.Tables.{Limits}
+use Rattle.wh_batch.proofs.GoodLemmas.{cond_ok}
 use Rattle.wh_history.proofs.Basics.{some_is}
 use Rattle.wh_rows.specs.declared.rows.CommandRow.{CommandRow}
 use Rattle.wh_rows.specs.Types.{is_key}
@@ -76,62 +77,16 @@ module _ (limits : Limits) (commands : List Accepted) (content : Content) where
         has_room few fewer =
             past_lines ∙ rw (le-ltb limits.changes (changes_kept commands + changes_in content) few, le-ltb limits.facts (length (sold commands) + length (sold_by content)) fewer) refl
 
--- a content without sales has no line that is there
-pub no_line : (commands : List Accepted) (content : Content) → sold_by content ≡ [] → first_line_there (sold commands) 1 (sold_by content) ≡ None
-no_line commands content none = ap (first_line_there (sold commands) 1) none
+-- a second upgrade is refused once there is room for it
+pub upgraded_before : (limits : Limits) (commands : List Accepted) (content : Content) → length commands < limits.commands → upgrades_again commands content ≡ true → number_for limits commands content ≡ Err Upgraded
+upgraded_before limits commands content room again = rw (lt-leb limits.commands (length commands) room, again) refl
 
--- and one without voids has none that is missing
-pub none_missing : (commands : List Accepted) (content : Content) → withdrawn_by content ≡ [] → first_line_missing (standing commands) 1 (withdrawn_by content) ≡ None
-none_missing commands content none = ap (first_line_missing (standing commands) 1) none
-
--- ---- the room for an upgrade is that for a batch of no records
-
-abbrev pub no_records : Content
-no_records = Describes Product []
-
-module _ (limits : Limits) (commands : List Accepted) (accepted : IsAccepted limits commands) where
-  few_changes : changes_kept commands + 0 ≤ limits.changes
-  few_changes = omega (arith, accepted.changes_within)
-
-  few_facts : length (sold commands) + 0 ≤ limits.facts
-  few_facts = omega (arith, accepted.facts_within)
-
-  module _ (room : length commands < limits.commands) where
-    room_for_none : number_for limits commands no_records ≡ Ok (suc (length commands))
-    room_for_none = has_room limits commands no_records room refl refl refl few_changes few_facts
-
-    room_for_upgrade : is_two (format_of commands) ≡ false → number_for limits commands Upgrades ≡ Ok (suc (length commands))
-    room_for_upgrade first = has_room limits commands Upgrades room first refl refl few_changes few_facts
-
-    upgraded_before : is_two (format_of commands) ≡ true → number_for limits commands Upgrades ≡ Err Upgraded
-    upgraded_before second = rw (lt-leb limits.commands (length commands) room, second) refl
-
-  -- whether the commands are at their limit
-  by_limit : (P : Type 0) → (length commands < limits.commands → P) → (limits.commands ≤ length commands → P) → P
-  by_limit P below at = go (leb limits.commands (length commands)) refl
-    where
-      go : (b : Bool) → leb limits.commands (length commands) ≡ b → P
-      go true full = at (leb-true limits.commands (length commands) full)
-      go false room = below (leb-false limits.commands (length commands) room)
-
-  pub upgrade_refused : (why : Refusal) → number_for limits commands no_records ≡ Err why → number_for limits commands Upgrades ≡ Err why
-  upgrade_refused why none =
-      by_limit (number_for limits commands Upgrades ≡ Err why)
-      (λ room. let never = sym (room_for_none room) ∙ none in absurd (cc))
-      (λ full. no_room limits commands Upgrades full ∙ sym (no_room limits commands no_records full) ∙ none)
-
-  module _ (number : ℕ) (some : number_for limits commands no_records ≡ Ok number) where
-    pub upgrade_again : is_two (format_of commands) ≡ true → number_for limits commands Upgrades ≡ Err Upgraded
-    upgrade_again second =
-        by_limit (number_for limits commands Upgrades ≡ Err Upgraded)
-        (λ room. upgraded_before room second)
-        (λ full. let never = sym (no_room limits commands no_records full) ∙ some in absurd (cc))
-
-    pub upgrade_numbered : is_two (format_of commands) ≡ false → number_for limits commands Upgrades ≡ Ok number
-    upgrade_numbered first =
-        by_limit (number_for limits commands Upgrades ≡ Ok number)
-        (λ room. room_for_upgrade room first ∙ sym (room_for_none room) ∙ some)
-        (λ full. let never = sym (no_room limits commands no_records full) ∙ some in absurd (cc))
+-- and none has a number
+pub not_again : (limits : Limits) (commands : List Accepted) (content : Content) (next : ℕ) → number_for limits commands content ≡ Ok next → upgrades_again commands content ≡ false
+not_again limits commands content next numbered =
+    let (few, rest) = cond_ok (leb limits.commands (length commands)) (Full Commands) _ next numbered in
+    let (once, last) = cond_ok (upgrades_again commands content) Upgraded _ next rest in
+    once
 
 -- ---- the lines of voids that have a number
 
@@ -195,7 +150,7 @@ module _ (limits : Limits) (commands : List Accepted) (c : Command) where
 
   module _ (good : is_key 40 c.id ≡ true) (new : IsNew commands c) where
     -- what it says is refused
-    content_refused : (why : Refusal) → content_of c.kind (format_of commands) (current_policy commands) c.bytes ≡ Err why → answer limits commands c ≡ Err why
+    pub content_refused : (why : Refusal) → content_of c.kind (format_of commands) (current_policy commands) c.bytes ≡ Err why → answer limits commands c ≡ Err why
     content_refused why h = new_answer good new ∙ ap (when_read limits commands c) h
 
     -- there is no number for it
@@ -223,39 +178,6 @@ module _ (limits : Limits) (commands : List Accepted) (c : Command) where
           ap (λ (n : ℕ). option_map (stored (suc (length commands))) (option_map (told (after content) (suc (length commands))) (at_place n (after content)))) longer
           ∙ ap (λ (o : Option Accepted). option_map (stored (suc (length commands))) (option_map (told (after content) (suc (length commands))) o)) (at_last commands (accepted_as c content))
           ∙ ap (λ (n : ℕ). Some (record { number = n; id = c.id; kind = command_kind_word c.kind; bytes = kept_bytes c.kind c.bytes; records = records_by content; placeholders = placeholders_by (after content) n content })) (sym next_number)
-
-    -- a batch of records, one of sales, one of voids, and a migration
-
-    module _ (dim : Dim) (kind : c.kind ≡ Batch (Dimension dim)) where
-      pub records_content : (records : List DimensionRecord) → judged_records dim (current_policy commands) c.bytes ≡ Ok records → content_of c.kind (format_of commands) (current_policy commands) c.bytes ≡ Ok (Describes dim records)
-      records_content records read = ap (λ k. content_of k (format_of commands) (current_policy commands) c.bytes) kind ∙ ap (λ o. o >>= λ records. Ok (Describes dim records)) read
-
-      pub records_refused : (why : Refusal) → judged_records dim (current_policy commands) c.bytes ≡ Err why → answer limits commands c ≡ Err why
-      records_refused why read = content_refused why (ap (λ k. content_of k (format_of commands) (current_policy commands) c.bytes) kind ∙ ap (λ o. o >>= λ records. Ok (Describes dim records)) read)
-
-    module _ (kind : c.kind ≡ Batch Sales) where
-      pub sales_content : (sales : List SaleRecord) → judged_sales (format_of commands) (current_policy commands) c.bytes ≡ Ok sales → content_of c.kind (format_of commands) (current_policy commands) c.bytes ≡ Ok (Sells sales)
-      sales_content sales read = ap (λ k. content_of k (format_of commands) (current_policy commands) c.bytes) kind ∙ ap (λ o. o >>= λ sales. Ok (Sells sales)) read
-
-      pub sales_refused : (why : Refusal) → judged_sales (format_of commands) (current_policy commands) c.bytes ≡ Err why → answer limits commands c ≡ Err why
-      sales_refused why read = content_refused why (ap (λ k. content_of k (format_of commands) (current_policy commands) c.bytes) kind ∙ ap (λ o. o >>= λ sales. Ok (Sells sales)) read)
-
-    module _ (kind : c.kind ≡ Batch Voids) where
-      pub voids_content : (voids : List VoidRecord) → judged_voids (format_of commands) c.bytes ≡ Ok voids → content_of c.kind (format_of commands) (current_policy commands) c.bytes ≡ Ok (Withdraws voids)
-      voids_content voids read = ap (λ k. content_of k (format_of commands) (current_policy commands) c.bytes) kind ∙ ap (λ o. o >>= λ voids. Ok (Withdraws voids)) read
-
-      pub voids_refused : (why : Refusal) → judged_voids (format_of commands) c.bytes ≡ Err why → answer limits commands c ≡ Err why
-      voids_refused why read = content_refused why (ap (λ k. content_of k (format_of commands) (current_policy commands) c.bytes) kind ∙ ap (λ o. o >>= λ voids. Ok (Withdraws voids)) read)
-
-    module _ (kind : c.kind ≡ Migration) where
-      pub policy_content : (newer : Policy) → judged_policy (current_policy commands) c.bytes ≡ Ok newer → content_of c.kind (format_of commands) (current_policy commands) c.bytes ≡ Ok (Governs newer)
-      policy_content newer read = ap (λ k. content_of k (format_of commands) (current_policy commands) c.bytes) kind ∙ ap (λ o. o >>= λ newer. Ok (Governs newer)) read
-
-      pub policy_refused : (why : Refusal) → judged_policy (current_policy commands) c.bytes ≡ Err why → answer limits commands c ≡ Err why
-      policy_refused why read = content_refused why (ap (λ k. content_of k (format_of commands) (current_policy commands) c.bytes) kind ∙ ap (λ o. o >>= λ newer. Ok (Governs newer)) read)
-
-  pub upgrade_content : c.kind ≡ Upgrade → content_of c.kind (format_of commands) (current_policy commands) c.bytes ≡ Ok Upgrades
-  upgrade_content kind = ap (λ k. content_of k (format_of commands) (current_policy commands) c.bytes) kind
 
   -- ---- the list after a command
 

@@ -7,6 +7,7 @@ pub mod MadePolicies
 pub mod Worked
 pub mod WorkedAnswers
 pub mod Decisions
+pub mod Contents
 pub mod Performing
 pub mod OpenedTables
 pub mod OpenedStored

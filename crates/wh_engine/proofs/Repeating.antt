@@ -15,7 +15,8 @@ use Rattle.wh_admission.specs.declared.command.Refusal.TheVariants.{Reused}
 use Rattle.wh_admission.specs.declared.command.Reply.{Reply}
 use Rattle.wh_admission.specs.declared.command.Reply.TheVariants.{Accepted as Accepts, Already}
 use Rattle.wh_admission.proofs.KeptRows.{last_is_kept}
-use Rattle.wh_engine.specs.Decided.{receipt_of_known, reply_to_known, Decides, RepeatsKept}
+use Rattle.wh_admission.specs.Repeated.{receipt_of_known}
+use Rattle.wh_engine.specs.Decided.{reply_to_known, Decides, RepeatsKept}
 use Rattle.wh_engine.specs.Faults.{Judges}
 use Rattle.wh_engine.specs.declared.decision.Decision.{Decision}
 use Rattle.wh_engine.specs.declared.decision.Decision.TheVariants.{Repeat, Accept}

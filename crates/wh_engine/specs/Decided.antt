@@ -1,13 +1,13 @@
 -- What is decided about a command, by what is read of the tables.
-use Rattle.std.specs.Prelude.{◌≡◌, ℕ, ◌+◌, List, [], ◌∷◌, ◌++◌, length, filter, find, Option, None, unwrap_or, bytes_eq, true, Result, Ok, ⊤}
+use Rattle.std.specs.Prelude.{◌≡◌, ℕ, ◌+◌, List, [], ◌∷◌, ◌++◌, length, filter, find, Option, None, unwrap_or, bytes_eq, true, Result, Ok, IfOk, ⊤}
 use Rattle.std.specs.FinMap.{len}
 use Rattle.wh_policy.specs.declared.format.Format.{Format}
 use Rattle.wh_policy.specs.declared.format.Format.TheVariants.{One, Two}
 use Rattle.wh_policy.specs.declared.policy.Policy.{Policy}
-use Rattle.wh_history.specs.Accepted.{Accepted, Content, format_of, governed}
+use Rattle.wh_history.specs.Accepted.{Accepted, Content, Governs, Describes, Sells, Upgrades, Withdraws, format_of, governed, records_by}
+use Rattle.wh_history.specs.Tables.{Limits}
 use Rattle.wh_rows.specs.declared.rows.CommandRow.{CommandRow}
-use Rattle.wh_batch.specs.Kind.{command_kind_word}
-use Rattle.wh_admission.specs.Admission.{answer, kept_bytes, content_of, accepted_as, current_policy, policy_brought, receipt_again, already}
+use Rattle.wh_admission.specs.Admission.{answer, content_of, accepted_as, current_policy, number_for, policy_brought, already}
 use Rattle.wh_rows.specs.Facts.{facts_in}
 use Rattle.wh_rows.specs.Tables.{Tables}
 use Rattle.wh_model.specs.Defined.{AreOf}
@@ -18,7 +18,8 @@ use Rattle.wh_rows.specs.Rows as layout
 use Rattle.wh_rows.specs.Types.{is_key}
 use Rattle.wh_rows.specs.Keys.{stands_at_number}
 use Rattle.wh_rows.specs.declared.table.Table.TheVariants as table
-use Rattle.wh_admission.specs.Repeated.{IsKept}
+use Rattle.wh_sql.specs.declared.fault.ReadFault.{ReadFault}
+use Rattle.wh_admission.specs.Repeated.{IsKept, receipt_of_known, row_of_command}
 use Rattle.wh_admission.specs.declared.command.Command.{Command}
 use Rattle.wh_admission.specs.declared.command.Receipt.{Receipt}
 use Rattle.wh_admission.specs.declared.command.Reply.{Reply}
@@ -30,16 +31,9 @@ use Rattle.wh_engine.specs.declared.session.Session.{Session}
 use Rattle.wh_engine.specs.declared.decision.Decision.{Decision}
 use Rattle.wh_engine.specs.declared.decision.Decision.TheVariants.{Repeat, Accept}
 
--- the receipt that was kept for a command whose id is that of this row, and the answer with it
-abbrev pub receipt_of_known : CommandRow → Command → Result Receipt Refusal
-receipt_of_known row c = receipt_again row.kind row.bytes c (record { number = row.number; records = row.records; placeholders = row.placeholders })
-
+-- the answer to a command whose id is that of this row
 abbrev pub reply_to_known : CommandRow → Command → Result Reply Refusal
 reply_to_known row c = already (receipt_of_known row c)
-
--- the row of a command that holds so many records and is the first to mention no member that it sells
-abbrev pub row_of_command : Command → ℕ → ℕ → CommandRow
-row_of_command c number records = record { number = number; id = c.id; kind = command_kind_word c.kind; bytes = kept_bytes c.kind c.bytes; records = records; placeholders = 0 }
 
 -- no accepted command has its id
 abbrev pub IsNew : List Accepted → Command → Type 0
@@ -51,6 +45,26 @@ pub record IsHeld (session : Session) (commands : List Accepted) (tables : Table
   pub are : AreOf session.limits commands tables
   pub format : session.format ≡ format_of commands
   pub policy : session.policy ≡ current_policy commands
+
+-- the command comes next: its id is good and new, it says this, and it gets this number
+pub record ComesNext (limits : Limits) (commands : List Accepted) (c : Command) (content : Content) (number : ℕ) : Type 0 where
+  pub good : is_key 40 c.id ≡ true
+  pub new : IsNew commands c
+  pub read : content_of c.kind (format_of commands) (current_policy commands) c.bytes ≡ Ok content
+  pub numbered : number_for limits commands content ≡ Ok number
+
+-- of any such command whose row is this the edits are planned that the tables need
+abbrev pub PlansNext : Limits → CommandRow → Content → Result Edits ReadFault → List Accepted → Type 0
+PlansNext limits row content result commands =
+    (c : Command) (number : ℕ) → ComesNext limits commands c content number → row ≡ row_of_command c number (records_by content) → IfOk result (AreEdits commands (commands ++ accepted_as c content ∷ []))
+
+-- how many of its edits put a placeholder row: a sale is the first to mention each new member
+abbrev pub placeholders_in : Content → Edits → ℕ
+placeholders_in (Governs policy) edits = 0
+placeholders_in (Describes dim records) edits = 0
+placeholders_in (Sells sales) edits = length edits.members
+placeholders_in Upgrades edits = 0
+placeholders_in (Withdraws lines) edits = 0
 
 -- the edits are those of the command, which says this, and the newer policy is the one that it gives, if it gives one
 pub record IsEffectOf (commands : List Accepted) (c : Command) (edits : Edits) (newer : Option Policy) : Type 0 where

@@ -1,5 +1,7 @@
 -- Faults of an engine, and what they say of the tables.
 use Rattle.std.specs.Prelude.{◌≡◌, Bool, true, false, Result, Ok, Err, IsTrue, IfErr, ⊤}
+use Rattle.wh_day.specs.declared.error.ParseError.{ParseError}
+use Rattle.wh_day.specs.declared.error.ParseError.TheVariants as unread
 use Rattle.wh_rows.specs.Raw.{Stored, HasDamageIn}
 use Rattle.wh_rows.specs.declared.table.Table.{Table}
 use Rattle.wh_sql.specs.declared.fault.ReadFault.{ReadFault}
@@ -14,6 +16,11 @@ abbrev pub of_reading : ReadFault → Fault
 of_reading reading.Memory = faults.Memory
 of_reading (reading.Damaged table) = faults.Damaged table
 of_reading (reading.Store cause) = faults.Store cause
+
+-- why it isn't known what a command says, as a fault
+abbrev pub of_content : ParseError Refusal → Fault
+of_content unread.Memory = faults.Memory
+of_content (unread.Fault why) = faults.Refused why
 
 -- no call of the store was refused
 abbrev pub SparesStore : Fault → Type 0

@@ -53,7 +53,8 @@ WasClean g old new = HasCleanDisk (state_of g new) → HasCleanDisk (state_of g 
 
 -- ---- what is left
 
--- where this holds any database is as it was, whatever its schema is and whoever wrote its rows, and a crash leaves nothing that it wouldn't have left before
+-- What a call that may write leaves of any database where it was calm, so where it wrote nothing: the connection is as it was, and a crash leaves only what it
+-- could have left before the call.
 pub record Keeps {S : Type 0} (g : Ghosts S) (old new : Tables S) (calm : Type 0) : Type 0 where
   pub clean : HasCleanDisk (state_of g new) → HasCleanDisk (state_of g old)
   pub same : HasCleanDisk (state_of g new) → calm → IsAsItWas (state_of g old) (state_of g new)

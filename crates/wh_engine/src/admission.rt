@@ -1,41 +1,28 @@
 //! Whether a command is accepted, as far as the tables say.
 
-ghost use Rattle.std.specs.Prelude.{◌≡◌, ◌+◌, ◌-◌, ◌*◌, ◌<◌, ◌≤◌, nat_le, [], length, false, not, is_some, IfOk};
+ghost use Rattle.std.specs.Prelude.{◌≡◌, ◌+◌, ◌-◌, ◌*◌, ◌<◌, ◌≤◌, nat_le, length, false, not, is_some, IfOk};
 ghost use Rattle.std.specs.FinMap.{len};
 ghost use Rattle.std.specs.List.{list_any};
-ghost use Rattle.wh_history.specs.Accepted.{Content, Sells, Withdraws, format_of, sold, sold_by, standing, withdrawn_by};
-ghost use Rattle.wh_policy.specs.declared.format.Format.TheVariants.{Two};
-ghost use Rattle.wh_admission.specs.Admission.{changes_in, first_line_missing, first_line_there, number_for, upgrades_again};
-ghost use Rattle.wh_engine.specs.Decided.{HasNoCommand, lines_in, receipt_of_known};
+ghost use Rattle.wh_history.specs.Accepted.{format_of, sold, standing};
+ghost use Rattle.wh_admission.specs.Admission.{first_line_missing, first_line_there, number_for, upgrades_again};
+ghost use Rattle.wh_admission.specs.Said.{says};
+ghost use Rattle.wh_engine.specs.Decided.{HasNoCommand, lines_in};
 ghost use Rattle.wh_model.specs.Defined.{command_at, void_at};
 ghost use Rattle.wh_engine.specs.Faults.{Judges};
 ghost use Rattle.wh_model.specs.Sound.{IsAccepted, is_sold_line, same_line};
 ghost use Rattle.wh_engine.specs.Scanned.{Reads, ReadsOnlyIn, WhenAccepted, WhenAtRest, WhenOfCommands, WhenStored};
 
 use crate::fault::Fault;
+use crate::session::Session;
 use crate::tickets::are_new;
 use sqlite::Alter;
 use std::alloc::Global;
-use wh_admission::{Command, Limit, Receipt, Refusal};
+use wh_admission::{Content, Limit, Refusal};
 use wh_batch::MOST_RECORDS;
 use wh_day::Value;
 use wh_policy::{Format, SaleRecord, VoidRecord};
-use wh_rows::{Cause, CommandRow, Limits, LineKey, tables};
+use wh_rows::{Cause, LineKey, tables};
 use wh_store::{KeyedTable, ReadFault, Tables};
-
-/// The receipt that was kept for a command whose id is known. It came again where kind and bytes are the same too.
-pub(crate) fn receipt_of_known(row: &CommandRow, command: &Command) -> Result<Receipt, Refusal>
-    ensures { result ≡ receipt_of_known row.now command.now }
-{
-    if row.kind.as_str() == command.kind.word() && row.bytes.as_slice() == command.kept_bytes() {
-        return Ok(Receipt {
-            number: row.number,
-            records: row.records,
-            placeholders: row.placeholders,
-        });
-    }
-    Err(Refusal::Reused)
-}
 
 /// Whether there is room under a limit for so many more than are kept.
 fn has_room_left(limit: u64, kept: u64, records: u64) -> bool
@@ -183,16 +170,17 @@ fn first_line_there<S: Alter>(
 fn is_line_missing<S: Alter>(
     tables: &mut Tables<S>,
     alloc: Global,
+    format: Format,
     void: &VoidRecord,
 ) -> Result<bool, ReadFault>
     ensures reads { ReadsOnlyIn S.Store tables.old tables.new result }
-    ensures missing { WhenOfCommands S.Store tables.old tables.new (λ _ commands. format_of commands ≡ Two → IfOk result (λ missing. missing ≡ not (is_sold_line (standing commands) void.now))) }
+    ensures missing { WhenOfCommands S.Store tables.old tables.new (λ _ commands. format ≡ format_of commands → IfOk result (λ missing. missing ≡ not (is_sold_line (standing commands) void.now))) }
 {
     let key = LineKey {
         ticket: Value::new(alloc, void.ticket.as_str())?,
         line: void.line,
     };
-    let fact = tables.fact(alloc, Format::Two, &key)?;
+    let fact = tables.fact(alloc, format, &key)?;
     Ok(fact.is_none())
 }
 
@@ -200,13 +188,14 @@ fn is_line_missing<S: Alter>(
 fn first_line_missing<S: Alter>(
     tables: &mut Tables<S>,
     alloc: Global,
+    format: Format,
     voids: &[VoidRecord],
 ) -> Result<Option<u64>, ReadFault>
     ensures reads { ReadsOnlyIn S.Store tables.old tables.new result }
-    ensures missing { WhenOfCommands S.Store tables.old tables.new (λ _ commands. format_of commands ≡ Two → IfOk result (λ missing. missing ≡ first_line_missing (standing commands) 1 voids.now)) }
+    ensures missing { WhenOfCommands S.Store tables.old tables.new (λ _ commands. format ≡ format_of commands → IfOk result (λ missing. missing ≡ first_line_missing (standing commands) 1 voids.now)) }
 {
     for (place, void) in voids.iter().enumerate() {
-        if is_line_missing(tables, alloc, void)? {
+        if is_line_missing(tables, alloc, format, void)? {
             return Ok(Some(place as u64 + 1));
         }
     }
@@ -238,76 +227,57 @@ fn free_number<S: Alter>(tables: &mut Tables<S>, alloc: Global, next: u64) -> Re
     Err(ReadFault::Store(Cause::Size))
 }
 
-/// The number of the next command, where there is room for it and for so many changes of members.
-pub(crate) fn number_for_records<S: Alter>(
+/// Refuses a command that withdraws a line that isn't there, sells one that is, or says more than there is room for.
+fn admit<S: Alter>(
     tables: &mut Tables<S>,
     alloc: Global,
-    limits: Limits,
-    records: u64,
-) -> Result<u64, Fault>
+    session: &Session,
+    commands: u64,
+    content: &Content,
+) -> Result<(), Fault>
     ensures reads { Reads S.Store tables.old tables.new result }
-    // No stored command has the answered number, whatever rows are stored.
-    ensures free { WhenStored S.Store tables.old tables.new (λ stored. IfOk result (HasNoCommand stored)) }
-    ensures number { WhenAccepted S.Store tables.old tables.new limits (λ commands. (content : Content) → sold_by content ≡ [] → withdrawn_by content ≡ [] → changes_in content ≡ records → upgrades_again commands content ≡ false → Judges (λ number next. number ≡ next) result (number_for limits commands content)) }
+    ensures admits { WhenAccepted S.Store tables.old tables.new session.now.limits (λ before. session.now.format ≡ format_of before → length before ≡ commands → commands < session.now.limits.commands → upgrades_again before (says content.now) ≡ false → Judges (λ _ next. next ≡ commands + 1) result (number_for session.now.limits before (says content.now))) }
 {
-    let commands = tables.count::<tables::Command>(alloc)?;
-    if limits.commands() <= commands {
-        return Err(Fault::Refused(Refusal::Full(Limit::Commands)));
+    let limits = session.limits;
+    let format = session.format;
+    if let Some(number) = first_line_missing(tables, alloc, format, content.withdrawn())? {
+        return Err(Fault::Refused(Refusal::NoLine(number)));
     }
-    if !has_room_for::<tables::Change, S>(tables, alloc, limits.changes(), commands, records)? {
-        return Err(Fault::Refused(Refusal::Full(Limit::Changes)));
-    }
-    let number = free_number(tables, alloc, commands + 1)?;
-    Ok(number)
-}
-
-/// The number of the next command, where there is room for it and for these sales, and none of their lines is there.
-pub(crate) fn number_for_sales<S: Alter>(
-    tables: &mut Tables<S>,
-    alloc: Global,
-    format: Format,
-    limits: Limits,
-    sales: &[SaleRecord],
-) -> Result<u64, Fault>
-    ensures reads { Reads S.Store tables.old tables.new result }
-    // No stored command has the answered number, whatever rows are stored.
-    ensures free { WhenStored S.Store tables.old tables.new (λ stored. IfOk result (HasNoCommand stored)) }
-    ensures number { WhenAccepted S.Store tables.old tables.new limits (λ commands. format ≡ format_of commands → Judges (λ number next. number ≡ next) result (number_for limits commands (Sells sales.now))) }
-{
-    let commands = tables.count::<tables::Command>(alloc)?;
-    if limits.commands() <= commands {
-        return Err(Fault::Refused(Refusal::Full(Limit::Commands)));
-    }
+    let sales = content.sold();
     if let Some(number) = first_line_there(tables, alloc, format, sales)? {
         return Err(Fault::Refused(Refusal::LineThere(number)));
+    }
+    let changes = content.changes();
+    if !has_room_for::<tables::Change, S>(tables, alloc, limits.changes(), commands, changes)? {
+        return Err(Fault::Refused(Refusal::Full(Limit::Changes)));
     }
     let count = sales.len() as u64;
     if !has_room_for_lines(tables, alloc, format, limits.facts(), commands, count)? {
         return Err(Fault::Refused(Refusal::Full(Limit::Facts)));
     }
-    let number = free_number(tables, alloc, commands + 1)?;
-    Ok(number)
+    Ok(())
 }
 
-/// The number of the next command, where there is room for it and each of these lines has a stored fact. A void needs no room for facts.
-pub(crate) fn number_for_voids<S: Alter>(
+/// The number of the next command, where there is room for it and for what it says.
+pub(crate) fn number_for<S: Alter>(
     tables: &mut Tables<S>,
     alloc: Global,
-    limits: Limits,
-    voids: &[VoidRecord],
+    session: &Session,
+    content: &Content,
 ) -> Result<u64, Fault>
     ensures reads { Reads S.Store tables.old tables.new result }
     // No stored command has the answered number, whatever rows are stored.
     ensures free { WhenStored S.Store tables.old tables.new (λ stored. IfOk result (HasNoCommand stored)) }
-    ensures number { WhenAccepted S.Store tables.old tables.new limits (λ commands. format_of commands ≡ Two → Judges (λ number next. number ≡ next) result (number_for limits commands (Withdraws voids.now))) }
+    ensures number { WhenAccepted S.Store tables.old tables.new session.now.limits (λ commands. session.now.format ≡ format_of commands → Judges (λ number next. number ≡ next) result (number_for session.now.limits commands (says content.now))) }
 {
     let commands = tables.count::<tables::Command>(alloc)?;
-    if limits.commands() <= commands {
+    if session.limits.commands() <= commands {
         return Err(Fault::Refused(Refusal::Full(Limit::Commands)));
     }
-    if let Some(number) = first_line_missing(tables, alloc, voids)? {
-        return Err(Fault::Refused(Refusal::NoLine(number)));
+    if content.upgrades_again(session.format) {
+        return Err(Fault::Refused(Refusal::Upgraded));
     }
+    admit(tables, alloc, session, commands, content)?;
     let number = free_number(tables, alloc, commands + 1)?;
     Ok(number)
 }

@@ -1,12 +1,13 @@
 //! Why a call on a warehouse isn't answered.
 
 ghost use Rattle.std.specs.Prelude.{◌≡◌};
-ghost use Rattle.wh_engine.specs.Faults.{of_reading, stops};
+ghost use Rattle.wh_engine.specs.Faults.{of_content, of_reading, stops};
 ghost use Rattle.wh_engine.specs.declared.fault.Fault.TheVariants as faults;
 
 use std::alloc::AllocError;
 use thiserror::Error;
 use wh_admission::Refusal;
+use wh_day::ParseError;
 use wh_rows::{Cause, Table};
 use wh_store::ReadFault;
 
@@ -50,6 +51,17 @@ impl From<Refusal> for Fault {
 
     fn from(why: Refusal) -> Fault {
         Fault::Refused(why)
+    }
+}
+
+impl From<ParseError<Refusal>> for Fault {
+    ghost from_gives = { λ why fault. fault ≡ of_content why };
+
+    fn from(why: ParseError<Refusal>) -> Fault {
+        match why {
+            ParseError::Memory => Fault::Memory,
+            ParseError::Fault(why) => Fault::Refused(why),
+        }
     }
 }
 

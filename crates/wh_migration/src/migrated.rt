@@ -32,7 +32,6 @@ use wh_history::{
 };
 use wh_plan::FactEdit;
 use wh_plan::fact_edits::fact_rekeys;
-use wh_plan::new_rows::rows_of_members;
 use wh_plan::sales::sale_keys::rendered_members;
 use wh_policy::{Dim, Format};
 use wh_rows::{Cause, LineKey, tables};
@@ -47,8 +46,10 @@ fn all_rows(
     ensures { IfOk result (λ found. found.items ≡ all_rows (shape_of dimension.now) members.now) }
 {
     let mut found = first_rows(alloc, dimension.dim, dimension.types)?;
-    let mut rows = rows_of_members(alloc, dimension, members)?;
-    found.append(&mut rows)?;
+    for member in members {
+        let mut rows = dimension.rows_of(alloc, member)?;
+        found.append(&mut rows)?;
+    }
     Ok(found)
 }
 

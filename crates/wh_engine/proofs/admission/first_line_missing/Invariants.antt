@@ -1,5 +1,4 @@
 use Rattle.std.proofs.Common.{◌≡◌, ◌+◌, drop, Ok}
-use Rattle.wh_policy.specs.declared.format.Format.TheVariants.{Two}
 use Rattle.wh_history.specs.Accepted.{format_of, standing}
 use Rattle.wh_store.specs.Reads.{ReadsOnly, state_of}
 use Rattle.wh_plan.specs.Reads.{Finds}
@@ -13,5 +12,5 @@ invariant-loop-place g l =
     let now = state_of g.S.Store l.tables in
     record {
       reads : ReadsOnly old now (Ok l.place);
-      passed : Finds old now (λ _ commands. format_of commands ≡ Two → first_line_missing (standing commands) (l.place + 1) (drop l.place l.voids) ≡ first_line_missing (standing commands) 1 l.voids);
+      passed : Finds old now (λ _ commands. l.format ≡ format_of commands → first_line_missing (standing commands) (l.place + 1) (drop l.place l.voids) ≡ first_line_missing (standing commands) 1 l.voids);
     }
