@@ -39,3 +39,4 @@ pub mod MovedBetween
 pub mod MovedTouched
 pub mod OnePass
 pub mod TouchedApart
+pub mod MemberPlans

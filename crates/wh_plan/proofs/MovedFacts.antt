@@ -114,19 +114,20 @@ module _ (limits : Limits) (commands : List Accepted) (c : Accepted) (dim : Dim)
   abbrev move_of : Fact → Option Fact
   move_of f = option_and_then (λ n. moved_for after dim n f) (find (owns f) touched)
 
+  -- what moves of a line by one member
+  pub moves_by_member : (key : LineKey) (n : List ℕ) → filter (has_line key) (moves_of_member commands after (facts_of t) dim n) ≡ option_to_list (option_and_then (gives n) (fact_at commands key))
+  moves_by_member key n =
+      ap (filter (has_line key)) (moves_of_some (λ f. owns f n) (moved_for after dim n) (values (facts_of t)))
+      ∙ filter_moves (has_line key) (gives n) (keeps_line key n) (values (facts_of t))
+      ∙ ap (filter_map (gives n)) (facts_of_line limits commands t are key)
+      ∙ moves_of_one (gives n) (fact_at commands key)
+
   moves_of_line : (key : LineKey) → filter (has_line key) moves ≡ option_to_list (option_and_then move_of (fact_at commands key))
   moves_of_line key =
       filter_flat (has_line key) (moves_of_member commands after (facts_of t) dim) touched
-      ∙ flat_map_same (λ n. filter (has_line key) (moves_of_member commands after (facts_of t) dim n)) (λ n. option_to_list (option_and_then (gives n) (fact_at commands key))) by_member touched
+      ∙ flat_map_same (λ n. filter (has_line key) (moves_of_member commands after (facts_of t) dim n)) (λ n. option_to_list (option_and_then (gives n) (fact_at commands key))) (moves_by_member key) touched
       ∙ by_fact (fact_at commands key)
     where
-      by_member : (n : List ℕ) → filter (has_line key) (moves_of_member commands after (facts_of t) dim n) ≡ option_to_list (option_and_then (gives n) (fact_at commands key))
-      by_member n =
-          ap (filter (has_line key)) (moves_of_some (λ f. owns f n) (moved_for after dim n) (values (facts_of t)))
-          ∙ filter_moves (has_line key) (gives n) (keeps_line key n) (values (facts_of t))
-          ∙ ap (filter_map (gives n)) (facts_of_line limits commands t are key)
-          ∙ moves_of_one (gives n) (fact_at commands key)
-
       by_fact : (o : Option Fact) → flat_map (λ n. option_to_list (option_and_then (gives n) o)) touched ≡ option_to_list (option_and_then move_of o)
       by_fact None = flat_none touched
       by_fact (Some f) = owner_gives bytes_eq bytes_eq-Decides (owns f) Given (one_owner f) (λ n. moved_for after dim n f) touched (given_each (naturals_told rs)) touched_once

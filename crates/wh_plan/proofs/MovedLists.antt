@@ -173,34 +173,34 @@ found_further f found more now all xs i x made within stands is so_far =
     ∙ ap (λ ys. found ++ flat_map f ys) (sym next)
     ∙ so_far
 
--- ---- and two lists side by side
+-- ---- and two lists side by side, the second one seen through a function
 
-pub pairs_through : {N X Y Z : Type 0} (f : X × Y → List Z) (g : N → X) (h : N → Y) (ns : List N) → flat_map f (zip (map g ns) (map h ns)) ≡ flat_map (λ n. f (g n, h n)) ns
-pairs_through f g h [] = refl
-pairs_through f g h (n ∷ ns) = ap (λ zs. f (g n, h n) ++ zs) (pairs_through f g h ns)
+pub pairs_through : {N X Y V Z : Type 0} (f : X × V → List Z) (r : Y → V) (g : N → X) (h : N → Y) (ns : List N) → flat_map f (zip (map g ns) (map r (map h ns))) ≡ flat_map (λ n. f (g n, r (h n))) ns
+pairs_through f r g h [] = refl
+pairs_through f r g h (n ∷ ns) = ap (λ zs. f (g n, r (h n)) ++ zs) (pairs_through f r g h ns)
 
-pub pairs_further : {X Y : Type 0} (made now : List (X × Y)) (all : List (X × Y)) (xs : List X) (ys : List Y) (i : ℕ) (x : X) (y : Y) → now ≡ made ++ (x, y) ∷ []
+pub pairs_further : {X Y V : Type 0} (r : Y → V) (made now : List (X × V)) (all : List (X × V)) (xs : List X) (ys : List Y) (i : ℕ) (x : X) (y : Y) → now ≡ made ++ (x, r y) ∷ []
     → i < length xs → x ≡ get_or xs i x → i < length ys → y ≡ get_or ys i y
-    → made ++ zip (drop i xs) (drop i ys) ≡ all → now ++ zip (drop (i + 1) xs) (drop (i + 1) ys) ≡ all
-pairs_further made now all xs ys i x y is x_within x_stands y_within y_stands so_far =
-    let rest = zip (drop (i + 1) xs) (drop (i + 1) ys) in
+    → made ++ zip (drop i xs) (map r (drop i ys)) ≡ all → now ++ zip (drop (i + 1) xs) (map r (drop (i + 1) ys)) ≡ all
+pairs_further r made now all xs ys i x y is x_within x_stands y_within y_stands so_far =
+    let rest = zip (drop (i + 1) xs) (map r (drop (i + 1) ys)) in
     ap (λ zs. zs ++ rest) is
-    ∙ append_assoc made ((x, y) ∷ []) rest
-    ∙ ap (λ us. made ++ zip us (y ∷ drop (i + 1) ys)) (sym (next_is xs i x x_within x_stands))
-    ∙ ap (λ us. made ++ zip (drop i xs) us) (sym (next_is ys i y y_within y_stands))
+    ∙ append_assoc made ((x, r y) ∷ []) rest
+    ∙ ap (λ us. made ++ zip us (map r (y ∷ drop (i + 1) ys))) (sym (next_is xs i x x_within x_stands))
+    ∙ ap (λ us. made ++ zip (drop i xs) (map r us)) (sym (next_is ys i y y_within y_stands))
     ∙ so_far
 
-none_left_of : {X Y : Type 0} (xs : List X) (ys : List Y) (i : ℕ) → length xs ≤ i → zip (drop i xs) ys ≡ []
-none_left_of xs ys i past = ap (λ us. zip us ys) (drop_all i xs past)
+none_left_of : {X V : Type 0} (xs : List X) (vs : List V) (i : ℕ) → length xs ≤ i → zip (drop i xs) vs ≡ []
+none_left_of xs vs i past = ap (λ us. zip us vs) (drop_all i xs past)
 
-no_right : {X Y : Type 0} (xs : List X) → zip {X = Y} xs [] ≡ []
+no_right : {X V : Type 0} (xs : List X) → zip {X = V} xs [] ≡ []
 no_right [] = refl
 no_right (x ∷ xs) = refl
 
-pub pairs_none_left : {X Y : Type 0} (made all : List (X × Y)) (xs : List X) (ys : List Y) (i : ℕ) → length xs ≤ i → made ++ zip (drop i xs) (drop i ys) ≡ all → made ++ zip (drop (i + 1) xs) (drop (i + 1) ys) ≡ all
-pairs_none_left made all xs ys i past so_far =
-    ap (λ zs. made ++ zs) (none_left_of xs (drop (i + 1) ys) (i + 1) (omega arith) ∙ sym (none_left_of xs (drop i ys) i past)) ∙ so_far
+pub pairs_none_left : {X Y V : Type 0} (r : Y → V) (made all : List (X × V)) (xs : List X) (ys : List Y) (i : ℕ) → length xs ≤ i → made ++ zip (drop i xs) (map r (drop i ys)) ≡ all → made ++ zip (drop (i + 1) xs) (map r (drop (i + 1) ys)) ≡ all
+pairs_none_left r made all xs ys i past so_far =
+    ap (λ zs. made ++ zs) (none_left_of xs (map r (drop (i + 1) ys)) (i + 1) (omega arith) ∙ sym (none_left_of xs (map r (drop i ys)) i past)) ∙ so_far
 
-pub pairs_all : {X Y : Type 0} (made all : List (X × Y)) (xs : List X) (ys : List Y) (i : ℕ) → length ys ≤ i → made ++ zip (drop i xs) (drop i ys) ≡ all → made ≡ all
-pairs_all made all xs ys i past so_far =
-    sym (append-nil made) ∙ sym (ap (λ zs. made ++ zs) (ap (zip (drop i xs)) (drop_all i ys past) ∙ no_right (drop i xs))) ∙ so_far
+pub pairs_all : {X Y V : Type 0} (r : Y → V) (made all : List (X × V)) (xs : List X) (ys : List Y) (i : ℕ) → length ys ≤ i → made ++ zip (drop i xs) (map r (drop i ys)) ≡ all → made ≡ all
+pairs_all r made all xs ys i past so_far =
+    sym (append-nil made) ∙ sym (ap (λ zs. made ++ zs) (ap (λ us. zip (drop i xs) (map r us)) (drop_all i ys past) ∙ no_right (drop i xs))) ∙ so_far

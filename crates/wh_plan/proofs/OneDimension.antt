@@ -19,7 +19,7 @@ use Rattle.wh_rows.specs.declared.key.MemberKey.{MemberKey}
 use Rattle.wh_rows.specs.Rows as row
 use Rattle.wh_model.specs.Defined.{member_at}
 use Rattle.wh_model.specs.Laws.{ShowsNoProfile}
-use Rattle.wh_plan.specs.BatchRows.{BatchRows, rows_brought, in_dimension, numbers_after, members_behind, new_members}
+use Rattle.wh_plan.specs.BatchRows.{BatchRows, rows_brought, with_rows, numbers_after, members_behind, new_members}
 use Rattle.wh_plan.proofs.Plans.{empty_plan, made_mapped}
 use Rattle.wh_model.proofs.GrownOthers.{same_dim_is, mentions_stay, table_stays, plain_table_stays}
 use Rattle.wh_model.proofs.GrownPlain.{sound_policies_show_none}
@@ -70,16 +70,16 @@ module _ (dim : Dim) (commands : List Accepted) (c : Accepted) (records : List D
 
     -- the plan of the batch's dimension, and none for the others
     planned_for : (rows : List (Edit DimRow ℕ)) → IsRowPlan (dimension_row commands dim) (dimension_row (commands ++ c ∷ []) dim) rows
-        → (other : Dim) → IsRowPlan (dimension_row commands other) (dimension_row (commands ++ c ∷ []) other) (in_dimension other dim rows)
+        → (other : Dim) → IsRowPlan (dimension_row commands other) (dimension_row (commands ++ c ∷ []) other) (cond (same_dim other dim) rows [])
     planned_for rows plan other =
         elim (same_dim other dim) as (λ b. (same_dim other dim ≡ b) → IsRowPlan (dimension_row commands other) (dimension_row after other) (cond b rows [])) [
           | true ↦ λ same. subst (λ d. IsRowPlan (dimension_row commands d) (dimension_row after d) rows) (sym (same_dim_is other dim same)) plan
           | false ↦ λ apart. empty_plan row.product nat_cmp_total (dimension_row commands other) (dimension_row after other) (stays other apart)
         ] refl
 
-    pub all_planned : (brought : BatchRows) (rows : List (Edit DimRow ℕ)) → brought.products ≡ in_dimension Product dim rows → brought.stores ≡ in_dimension Store dim rows → brought.customers ≡ in_dimension Customer dim rows
+    pub all_planned : (none : BatchRows) (rows : List (Edit DimRow ℕ)) → none.products ≡ [] → none.stores ≡ [] → none.customers ≡ []
         → IsRowPlan (dimension_row commands dim) (dimension_row (commands ++ c ∷ []) dim) rows
-        → (other : Dim) → IsRowPlan (dimension_row commands other) (dimension_row (commands ++ c ∷ []) other) (rows_brought other brought)
-    all_planned brought rows products stores customers plan Product = rw products (planned_for rows plan Product)
-    all_planned brought rows products stores customers plan Store = rw stores (planned_for rows plan Store)
-    all_planned brought rows products stores customers plan Customer = rw customers (planned_for rows plan Customer)
+        → (other : Dim) → IsRowPlan (dimension_row commands other) (dimension_row (commands ++ c ∷ []) other) (rows_brought other (with_rows dim rows none))
+    all_planned none rows products stores customers plan Product = subst (λ left. IsRowPlan (dimension_row commands Product) (dimension_row after Product) (cond (same_dim Product dim) rows left)) (sym products) (planned_for rows plan Product)
+    all_planned none rows products stores customers plan Store = subst (λ left. IsRowPlan (dimension_row commands Store) (dimension_row after Store) (cond (same_dim Store dim) rows left)) (sym stores) (planned_for rows plan Store)
+    all_planned none rows products stores customers plan Customer = subst (λ left. IsRowPlan (dimension_row commands Customer) (dimension_row after Customer) (cond (same_dim Customer dim) rows left)) (sym customers) (planned_for rows plan Customer)

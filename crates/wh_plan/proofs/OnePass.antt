@@ -22,7 +22,7 @@ use Rattle.wh_rows.specs.Rows as row
 use Rattle.wh_rows.specs.Since.{is_sold_of}
 use Rattle.wh_rows.specs.declared.key.LineKey.{LineKey}
 use Rattle.wh_plan.specs.BatchRows.{AreFacts, AreRekeyed}
-use Rattle.wh_plan.specs.MovedFacts.{facts_between, moved_of_touched, pair_of, rekeyed_facts}
+use Rattle.wh_plan.specs.MovedFacts.{facts_between, moved_of_touched, pair_of}
 use Rattle.wh_plan.specs.OnePass.{AreApart, IsAskedFor, Moving, can_move, earlier, first_moving, is_within, moved_by, moved_fact, moved_of_found, moves_of_fact, moves_on, moving_of, on_day, owner_in}
 use Rattle.wh_plan.specs.declared.records.touched.TouchedMember.{TouchedMember}
 use Rattle.wh_store.proofs.Looping.{next_is}
@@ -52,30 +52,30 @@ at_most_is a b = go (nat_cmp a b) (ranks a b)
 
 -- ---- a member's part
 
-module _ (shape : Shape) (has : ℕ → ℕ → Bool) (from : ℕ) (t : Member × Member) where
+module _ (shape : Shape) (has : ℕ → ℕ → Bool) (from : ℕ) (t : Member × RenderedMember) where
   -- the facts that a member's days are asked for
   abbrev asked : Fact → Bool
-  asked = is_sold_between shape.dim t.1.durable (moves_since t.0.changes t.1.changes) (moves_until (rendered_in shape t.0) (rendered_in shape t.1))
+  asked = is_sold_between shape.dim t.1.member.durable (moves_since t.0.changes t.1.member.changes) (moves_until (rendered_in shape t.0) t.1)
 
   asked_is : (f : Fact) → asked f ≡ can_move shape t f
-  asked_is f = ap₂ ◌&&◌ (unsigned_tied t.1.durable (durable_of shape.dim f)) (ap₂ ◌&&◌ (at_least_is f.day (moves_since t.0.changes t.1.changes)) (at_most_is f.day (moves_until (rendered_in shape t.0) (rendered_in shape t.1))))
+  asked_is f = ap₂ ◌&&◌ (unsigned_tied t.1.member.durable (durable_of shape.dim f)) (ap₂ ◌&&◌ (at_least_is f.day (moves_since t.0.changes t.1.member.changes)) (at_most_is f.day (moves_until (rendered_in shape t.0) t.1)))
 
   filter_is : (facts : List Fact) → filter asked facts ≡ filter (can_move shape t) facts
   filter_is [] = refl
   filter_is (f ∷ fs) = ap₂ (λ b l. cond b (f ∷ l) l) (asked_is f) (filter_is fs)
 
-  module _ (given : (day : ℕ) → is_within (moving_of shape t) day ≡ true → has t.1.durable day ≡ true) (later : from ≤ moves_since t.0.changes t.1.changes) where
+  module _ (given : (day : ℕ) → is_within (moving_of shape t) day ≡ true → has t.1.member.durable day ≡ true) (later : from ≤ moves_since t.0.changes t.1.member.changes) where
     -- a fact that is asked for of a member is among those that are asked for of all
     is_among : (f : Fact) → can_move shape t f ≡ true → is_sold_of has shape.dim from f ≡ true
     is_among f h =
-        let its = and_parts (t.1.durable == durable_of shape.dim f) (is_within (moving_of shape t) f.day) h in
-        let days = and_parts (nat_le (moves_since t.0.changes t.1.changes) f.day) (nat_le f.day (moves_until (rendered_in shape t.0) (rendered_in shape t.1))) its.1 in
-        let day = leb-true (moves_since t.0.changes t.1.changes) f.day days.0 in
-        both (at_least_is f.day from ∙ le-leb from f.day (omega (arith, day, later))) (ap (λ durable. has durable f.day) (sym (eqb-true t.1.durable (durable_of shape.dim f) its.0)) ∙ given f.day its.1)
+        let its = and_parts (t.1.member.durable == durable_of shape.dim f) (is_within (moving_of shape t) f.day) h in
+        let days = and_parts (nat_le (moves_since t.0.changes t.1.member.changes) f.day) (nat_le f.day (moves_until (rendered_in shape t.0) t.1)) its.1 in
+        let day = leb-true (moves_since t.0.changes t.1.member.changes) f.day days.0 in
+        both (at_least_is f.day from ∙ le-leb from f.day (omega (arith, day, later))) (ap (λ durable. has durable f.day) (sym (eqb-true t.1.member.durable (durable_of shape.dim f) its.0)) ∙ given f.day its.1)
 
     -- So the part of what was found that is of a member and between its days is, in some order, what the table has of it.
     part_of_found : (table : FinMap row.fact.order Fact) (found : List Fact) → IsPermutation (filter (is_sold_of has shape.dim from) (values table)) found
-        → IsPermutation (facts_between table shape.dim t.1.durable (moves_since t.0.changes t.1.changes) (moves_until (rendered_in shape t.0) (rendered_in shape t.1))) (filter (can_move shape t) found)
+        → IsPermutation (facts_between table shape.dim t.1.member.durable (moves_since t.0.changes t.1.member.changes) (moves_until (rendered_in shape t.0) t.1)) (filter (can_move shape t) found)
     part_of_found table found same =
         subst (λ l. IsPermutation l (filter (can_move shape t) found)) (filter-filter (can_move shape t) (is_sold_of has shape.dim from) is_among (values table) ∙ sym (filter_is (values table)))
         (IsPermutation-filter (can_move shape t) _ _ same)
@@ -86,7 +86,7 @@ as_flat_map : {X Y : Type 0} (h : X → Option Y) (xs : List X) → filter_map h
 as_flat_map h [] = refl
 as_flat_map h (x ∷ xs) = elim (h x) as (λ o. cons_option o (filter_map h xs) ≡ option_to_list o ++ flat_map (λ y. option_to_list (h y)) xs) [ None ↦ as_flat_map h xs | Some y ↦ ap (λ l. y ∷ l) (as_flat_map h xs) ]
 
-reordered : {X Y : Type 0} (h : X → Option Y) (xs ys : List X) → IsPermutation xs ys → IsPermutation (filter_map h xs) (filter_map h ys)
+pub reordered : {X Y : Type 0} (h : X → Option Y) (xs ys : List X) → IsPermutation xs ys → IsPermutation (filter_map h xs) (filter_map h ys)
 reordered h xs ys same = rw (as_flat_map h xs, as_flat_map h ys) (IsPermutation-flat_map (λ x. option_to_list (h x)) xs ys same)
 
 -- four lists, of which the middle ones change places
@@ -109,45 +109,45 @@ turned makes (p ∷ ps) fs = IsPermutation-trans _ _ _ (IsPermutation-append _ _
 -- ---- of all touched members
 
 module _ (shape : Shape) (table : FinMap row.fact.order Fact) (has : ℕ → ℕ → Bool) (from : ℕ) (found : List Fact) (same : IsPermutation (filter (is_sold_of has shape.dim from) (values table)) found) where
-  moved_part : (t : Member × Member) → IsAskedFor shape has from t → IsPermutation (moved_of_touched shape table t) (moved_of_found shape found t)
+  moved_part : (t : Member × RenderedMember) → IsAskedFor shape has from t → IsPermutation (moved_of_touched shape table t) (moved_of_found shape found t)
   moved_part t asked =
-      let since = moves_since t.0.changes t.1.changes in
-      let until = moves_until (rendered_in shape t.0) (rendered_in shape t.1) in
-      elim (nat_lt 0 t.0.durable) as (λ b. (nat_lt 0 t.0.durable ≡ b) → IsPermutation (cond b (rekeyed_facts shape t.1 (facts_between table shape.dim t.1.durable since until)) []) (cond b (rekeyed_facts shape t.1 (filter (can_move shape t) found)) [])) [
-        | true ↦ λ stored. let given = asked stored in reordered (rekeyed_fact shape (rendered_in shape t.1)) _ _ (part_of_found shape has from t given.0 given.1 table found same)
+      let since = moves_since t.0.changes t.1.member.changes in
+      let until = moves_until (rendered_in shape t.0) t.1 in
+      elim (nat_lt 0 t.0.durable) as (λ b. (nat_lt 0 t.0.durable ≡ b) → IsPermutation (cond b (filter_map (rekeyed_fact shape t.1) (facts_between table shape.dim t.1.member.durable since until)) []) (cond b (filter_map (rekeyed_fact shape t.1) (filter (can_move shape t) found)) [])) [
+        | true ↦ λ stored. let given = asked stored in reordered (rekeyed_fact shape t.1) _ _ (part_of_found shape has from t given.0 given.1 table found same)
         | false ↦ λ _. IsPermutation-refl []
       ] refl
 
   -- the facts that they move, one member after the other
-  moved_parts : (touched : List (Member × Member)) → AllByRecursion (IsAskedFor shape has from) touched → IsPermutation (flat_map (moved_of_touched shape table) touched) (flat_map (moved_of_found shape found) touched)
+  moved_parts : (touched : List (Member × RenderedMember)) → AllByRecursion (IsAskedFor shape has from) touched → IsPermutation (flat_map (moved_of_touched shape table) touched) (flat_map (moved_of_found shape found) touched)
   moved_parts [] asked = IsPermutation-refl []
   moved_parts (t ∷ ts) asked = IsPermutation-append _ _ _ _ (moved_part t asked.0) (moved_parts ts asked.1)
 
   -- one fact after the other
-  by_fact : (t : Member × Member) → moved_of_found shape found t ≡ flat_map (λ f. option_to_list (moved_by shape f t)) found
+  by_fact : (t : Member × RenderedMember) → moved_of_found shape found t ≡ flat_map (λ f. option_to_list (moved_by shape f t)) found
   by_fact t =
-      let to = rekeyed_fact shape (rendered_in shape t.1) in
+      let to = rekeyed_fact shape t.1 in
       let stands = can_move shape t in
       elim (nat_lt 0 t.0.durable) as (λ b. cond b (filter_map to (filter stands found)) [] ≡ flat_map (λ f. option_to_list (cond (b && stands f) (to f) None)) found) [
         | true ↦ moves_of_some stands to found ∙ as_flat_map (λ f. cond (stands f) (to f) None) found
         | false ↦ sym (flat_none found)
       ]
 
-  each_by_fact : (touched : List (Member × Member)) → flat_map (moved_of_found shape found) touched ≡ flat_map (λ t. flat_map (λ f. option_to_list (moved_by shape f t)) found) touched
+  each_by_fact : (touched : List (Member × RenderedMember)) → flat_map (moved_of_found shape found) touched ≡ flat_map (λ t. flat_map (λ f. option_to_list (moved_by shape f t)) found) touched
   each_by_fact [] = refl
   each_by_fact (t ∷ ts) = ap (λ l. l ++ flat_map (moved_of_found shape found) ts) (by_fact t) ∙ ap (λ l. flat_map (λ f. option_to_list (moved_by shape f t)) found ++ l) (each_by_fact ts)
 
   -- So what the touched members make of each fact that was found is, in some order, what the facts of each of them lead to.
-  one_pass : (touched : List (Member × Member)) → AllByRecursion (IsAskedFor shape has from) touched → IsPermutation (flat_map (moved_of_touched shape table) touched) (flat_map (moves_of_fact shape touched) found)
+  one_pass : (touched : List (Member × RenderedMember)) → AllByRecursion (IsAskedFor shape has from) touched → IsPermutation (flat_map (moved_of_touched shape table) touched) (flat_map (moves_of_fact shape touched) found)
   one_pass touched asked =
       IsPermutation-trans _ _ _ (moved_parts touched asked)
       (subst (λ l. IsPermutation l (flat_map (moves_of_fact shape touched) found)) (sym (each_by_fact touched)) (turned (λ t f. option_to_list (moved_by shape f t)) touched found))
 
 -- ---- by its owner alone
 
-none_owned : (u : Member × Member) (durable : ℕ) (rest : Option (Member × Member)) → cond (nat_lt 0 u.0.durable && (u.1.durable == durable)) (Some u) rest ≡ None → ((nat_lt 0 u.0.durable && (u.1.durable == durable)) ≡ false) × (rest ≡ None)
+none_owned : (u : Member × RenderedMember) (durable : ℕ) (rest : Option (Member × RenderedMember)) → cond (nat_lt 0 u.0.durable && (u.1.member.durable == durable)) (Some u) rest ≡ None → ((nat_lt 0 u.0.durable && (u.1.member.durable == durable)) ≡ false) × (rest ≡ None)
 none_owned u durable rest none =
-    elim (nat_lt 0 u.0.durable && (u.1.durable == durable)) as (λ b. cond b (Some u) rest ≡ None → (b ≡ false) × (rest ≡ None)) [
+    elim (nat_lt 0 u.0.durable && (u.1.member.durable == durable)) as (λ b. cond b (Some u) rest ≡ None → (b ≡ false) × (rest ≡ None)) [
       | true ↦ λ some. absurd cc
       | false ↦ λ later. (refl, later)
     ] none
@@ -156,58 +156,58 @@ module _ (shape : Shape) (f : Fact) where
   abbrev durable : ℕ
   durable = durable_of shape.dim f
 
-  abbrev gives : Member × Member → List Fact
+  abbrev gives : Member × RenderedMember → List Fact
   gives t = option_to_list (moved_by shape f t)
 
   -- what isn't its owner gives nothing
-  others_give_none : (us : List (Member × Member)) → owner_in us durable ≡ None → flat_map gives us ≡ []
+  others_give_none : (us : List (Member × RenderedMember)) → owner_in us durable ≡ None → flat_map gives us ≡ []
   others_give_none [] none = refl
   others_give_none (u ∷ us) none =
       let split = none_owned u durable (owner_in us durable) none in
-      go (nat_lt 0 u.0.durable) (u.1.durable == durable) split.0 (others_give_none us split.1)
+      go (nat_lt 0 u.0.durable) (u.1.member.durable == durable) split.0 (others_give_none us split.1)
     where
-      go : (stored mine : Bool) → (stored && mine) ≡ false → flat_map gives us ≡ [] → option_to_list (cond (stored && (mine && is_within (moving_of shape u) f.day)) (rekeyed_fact shape (rendered_in shape u.1) f) None) ++ flat_map gives us ≡ []
+      go : (stored mine : Bool) → (stored && mine) ≡ false → flat_map gives us ≡ [] → option_to_list (cond (stored && (mine && is_within (moving_of shape u) f.day)) (rekeyed_fact shape u.1 f) None) ++ flat_map gives us ≡ []
       go true true other rest = absurd cc
       go true false other rest = rest
       go false mine other rest = rest
 
-  owner_gives : (ts : List (Member × Member)) → AreApart ts → flat_map gives ts ≡ option_to_list (moved_fact shape (λ d. option_map (moving_of shape) (owner_in ts d)) f)
+  owner_gives : (ts : List (Member × RenderedMember)) → AreApart ts → flat_map gives ts ≡ option_to_list (moved_fact shape (λ d. option_map (moving_of shape) (owner_in ts d)) f)
   owner_gives [] apart = refl
   owner_gives (t ∷ ts) apart =
-      go (nat_lt 0 t.0.durable) (t.1.durable == durable)
-      (λ stored mine. others_give_none ts (ap (owner_in ts) (sym (eqb-true t.1.durable durable mine)) ∙ apart.0 stored)) refl refl (owner_gives ts apart.1)
+      go (nat_lt 0 t.0.durable) (t.1.member.durable == durable)
+      (λ stored mine. others_give_none ts (ap (owner_in ts) (sym (eqb-true t.1.member.durable durable mine)) ∙ apart.0 stored)) refl refl (owner_gives ts apart.1)
     where
       to : RenderedMember → Option Fact
       to rows = rekeyed_fact shape rows f
 
-      within : (b : Bool) → option_to_list (cond b (rekeyed_fact shape (rendered_in shape t.1) f) None) ≡ option_to_list (option_and_then (λ rows. rekeyed_fact shape rows f) (cond b (Some (rendered_in shape t.1)) None))
+      within : (b : Bool) → option_to_list (cond b (rekeyed_fact shape t.1 f) None) ≡ option_to_list (option_and_then (λ rows. rekeyed_fact shape rows f) (cond b (Some t.1) None))
       within true = refl
       within false = refl
 
-      go : (stored mine : Bool) → (nat_lt 0 t.0.durable ≡ true → (t.1.durable == durable) ≡ true → flat_map gives ts ≡ []) → nat_lt 0 t.0.durable ≡ stored → (t.1.durable == durable) ≡ mine
+      go : (stored mine : Bool) → (nat_lt 0 t.0.durable ≡ true → (t.1.member.durable == durable) ≡ true → flat_map gives ts ≡ []) → nat_lt 0 t.0.durable ≡ stored → (t.1.member.durable == durable) ≡ mine
           → flat_map gives ts ≡ option_to_list (moved_fact shape (λ d. option_map (moving_of shape) (owner_in ts d)) f)
-          → option_to_list (cond (stored && (mine && is_within (moving_of shape t) f.day)) (rekeyed_fact shape (rendered_in shape t.1) f) None) ++ flat_map gives ts
+          → option_to_list (cond (stored && (mine && is_within (moving_of shape t) f.day)) (rekeyed_fact shape t.1 f) None) ++ flat_map gives ts
           ≡ option_to_list (option_and_then (λ rows. rekeyed_fact shape rows f) (on_day (option_map (moving_of shape) (cond (stored && mine) (Some t) (owner_in ts durable))) f.day))
       go true true none is_stored is_mine rest =
-          ap (λ l. option_to_list (cond (is_within (moving_of shape t) f.day) (rekeyed_fact shape (rendered_in shape t.1) f) None) ++ l) (none is_stored is_mine) ∙ append-nil _ ∙ within (is_within (moving_of shape t) f.day)
+          ap (λ l. option_to_list (cond (is_within (moving_of shape t) f.day) (rekeyed_fact shape t.1 f) None) ++ l) (none is_stored is_mine) ∙ append-nil _ ∙ within (is_within (moving_of shape t) f.day)
       go true false none is_stored is_mine rest = rest
       go false mine none is_stored is_mine rest = rest
 
 -- ---- what is asked for
 
 -- each that is stored is found by its durable key
-found_itself : (ts : List (Member × Member)) → AreApart ts → AllByRecursion (λ t. nat_lt 0 t.0.durable ≡ true → owner_in ts t.1.durable ≡ Some t) ts
+found_itself : (ts : List (Member × RenderedMember)) → AreApart ts → AllByRecursion (λ t. nat_lt 0 t.0.durable ≡ true → owner_in ts t.1.member.durable ≡ Some t) ts
 found_itself [] apart = tt
 found_itself (s ∷ ts) apart = (
-  (λ stored. ap₂ (λ a b. cond (a && b) (Some s) (owner_in ts s.1.durable)) stored (eq-eqb s.1.durable s.1.durable refl)),
-  all_weaker (λ t. nat_lt 0 t.0.durable ≡ true → owner_in ts t.1.durable ≡ Some t) (λ t. nat_lt 0 t.0.durable ≡ true → owner_in (s ∷ ts) t.1.durable ≡ Some t) (λ t found stored. behind t (found stored)) ts (found_itself ts apart.1),
+  (λ stored. ap₂ (λ a b. cond (a && b) (Some s) (owner_in ts s.1.member.durable)) stored (eq-eqb s.1.member.durable s.1.member.durable refl)),
+  all_weaker (λ t. nat_lt 0 t.0.durable ≡ true → owner_in ts t.1.member.durable ≡ Some t) (λ t. nat_lt 0 t.0.durable ≡ true → owner_in (s ∷ ts) t.1.member.durable ≡ Some t) (λ t found stored. behind t (found stored)) ts (found_itself ts apart.1),
 )
   where
-    behind : (t : Member × Member) → owner_in ts t.1.durable ≡ Some t → owner_in (s ∷ ts) t.1.durable ≡ Some t
-    behind t found = go (nat_lt 0 s.0.durable) (s.1.durable == t.1.durable) refl refl
+    behind : (t : Member × RenderedMember) → owner_in ts t.1.member.durable ≡ Some t → owner_in (s ∷ ts) t.1.member.durable ≡ Some t
+    behind t found = go (nat_lt 0 s.0.durable) (s.1.member.durable == t.1.member.durable) refl refl
       where
-        go : (stored mine : Bool) → nat_lt 0 s.0.durable ≡ stored → (s.1.durable == t.1.durable) ≡ mine → cond (stored && mine) (Some s) (owner_in ts t.1.durable) ≡ Some t
-        go true true is_stored is_mine = let none = apart.0 is_stored in let same = ap (owner_in ts) (eqb-true s.1.durable t.1.durable is_mine) in absurd cc
+        go : (stored mine : Bool) → nat_lt 0 s.0.durable ≡ stored → (s.1.member.durable == t.1.member.durable) ≡ mine → cond (stored && mine) (Some s) (owner_in ts t.1.member.durable) ≡ Some t
+        go true true is_stored is_mine = let none = apart.0 is_stored in let same = ap (owner_in ts) (eqb-true s.1.member.durable t.1.member.durable is_mine) in absurd cc
         go true false is_stored is_mine = found
         go false mine is_stored is_mine = found
 
@@ -224,26 +224,26 @@ earlier_bound from day (Some other) h =
       | false ↦ λ not bound. let above = ltb-false other day not in (bound, omega (arith, above, bound))
     ] refl h
 
-none_before : (from : ℕ) (ts : List (Member × Member)) → IsBound from (first_moving ts) → AllByRecursion (λ t. nat_lt 0 t.0.durable ≡ true → from ≤ moves_since t.0.changes t.1.changes) ts
+none_before : (from : ℕ) (ts : List (Member × RenderedMember)) → IsBound from (first_moving ts) → AllByRecursion (λ t. nat_lt 0 t.0.durable ≡ true → from ≤ moves_since t.0.changes t.1.member.changes) ts
 none_before from [] bound = tt
 none_before from (t ∷ ts) bound =
-    elim (nat_lt 0 t.0.durable) as (λ b. IsBound from (cond b (Some (earlier (moves_since t.0.changes t.1.changes) (first_moving ts))) (first_moving ts)) → (b ≡ true → from ≤ moves_since t.0.changes t.1.changes) × AllByRecursion (λ t. nat_lt 0 t.0.durable ≡ true → from ≤ moves_since t.0.changes t.1.changes) ts) [
-      | true ↦ λ given. let parts = earlier_bound from (moves_since t.0.changes t.1.changes) (first_moving ts) given in ((λ _. parts.0), none_before from ts parts.1)
+    elim (nat_lt 0 t.0.durable) as (λ b. IsBound from (cond b (Some (earlier (moves_since t.0.changes t.1.member.changes) (first_moving ts))) (first_moving ts)) → (b ≡ true → from ≤ moves_since t.0.changes t.1.member.changes) × AllByRecursion (λ t. nat_lt 0 t.0.durable ≡ true → from ≤ moves_since t.0.changes t.1.member.changes) ts) [
+      | true ↦ λ given. let parts = earlier_bound from (moves_since t.0.changes t.1.member.changes) (first_moving ts) given in ((λ _. parts.0), none_before from ts parts.1)
       | false ↦ λ given. ((λ some. absurd cc), none_before from ts given)
     ] bound
 
 -- where no touched member is stored nothing moves
-pub none_moves : (shape : Shape) (table : FinMap row.fact.order Fact) (ts : List (Member × Member)) → first_moving ts ≡ None → flat_map (moved_of_touched shape table) ts ≡ []
+pub none_moves : (shape : Shape) (table : FinMap row.fact.order Fact) (ts : List (Member × RenderedMember)) → first_moving ts ≡ None → flat_map (moved_of_touched shape table) ts ≡ []
 none_moves shape table [] none = refl
 none_moves shape table (t ∷ ts) none =
-    elim (nat_lt 0 t.0.durable) as (λ b. cond b (Some (earlier (moves_since t.0.changes t.1.changes) (first_moving ts))) (first_moving ts) ≡ None
-    → cond b (rekeyed_facts shape t.1 (facts_between table shape.dim t.1.durable (moves_since t.0.changes t.1.changes) (moves_until (rendered_in shape t.0) (rendered_in shape t.1)))) [] ++ flat_map (moved_of_touched shape table) ts ≡ []) [
+    elim (nat_lt 0 t.0.durable) as (λ b. cond b (Some (earlier (moves_since t.0.changes t.1.member.changes) (first_moving ts))) (first_moving ts) ≡ None
+    → cond b (filter_map (rekeyed_fact shape t.1) (facts_between table shape.dim t.1.member.durable (moves_since t.0.changes t.1.member.changes) (moves_until (rendered_in shape t.0) t.1))) [] ++ flat_map (moved_of_touched shape table) ts ≡ []) [
       | true ↦ λ some. absurd cc
       | false ↦ λ later. none_moves shape table ts later
     ] none
 
 -- What the members make of the facts that one pass found is, in some order, what the facts of each of them lead to.
-pub found_moved : (shape : Shape) (table : FinMap row.fact.order Fact) (touched : List (Member × Member)) → AreApart touched
+pub found_moved : (shape : Shape) (table : FinMap row.fact.order Fact) (touched : List (Member × RenderedMember)) → AreApart touched
     → (movers : ℕ → Option Moving) → ((durable : ℕ) → movers durable ≡ option_map (moving_of shape) (owner_in touched durable))
     → (from : ℕ) → first_moving touched ≡ Some from
     → (found : List Fact) → IsPermutation (filter (is_sold_of (moves_on movers) shape.dim from) (values table)) found
@@ -261,14 +261,14 @@ found_moved shape table touched apart movers are from first found same facts mad
     le_itself : (n : ℕ) → n ≤ n
     le_itself n = omega arith
 
-    day_given : (t : Member × Member) → movers t.1.durable ≡ Some (moving_of shape t) → (day : ℕ) → is_within (moving_of shape t) day ≡ true → moves_on movers t.1.durable day ≡ true
-    day_given t is day within = ap (λ o. is_some (on_day o day)) is ∙ ap (λ b. is_some (cond b (Some (rendered_in shape t.1)) None)) within
+    day_given : (t : Member × RenderedMember) → movers t.1.member.durable ≡ Some (moving_of shape t) → (day : ℕ) → is_within (moving_of shape t) day ≡ true → moves_on movers t.1.member.durable day ≡ true
+    day_given t is day within = ap (λ o. is_some (on_day o day)) is ∙ ap (λ b. is_some (cond b (Some t.1) None)) within
 
-    all_both : (ts : List (Member × Member)) → AllByRecursion (λ t. nat_lt 0 t.0.durable ≡ true → owner_in touched t.1.durable ≡ Some t) ts
-        → AllByRecursion (λ t. nat_lt 0 t.0.durable ≡ true → from ≤ moves_since t.0.changes t.1.changes) ts → AllByRecursion (IsAskedFor shape (moves_on movers) from) ts
+    all_both : (ts : List (Member × RenderedMember)) → AllByRecursion (λ t. nat_lt 0 t.0.durable ≡ true → owner_in touched t.1.member.durable ≡ Some t) ts
+        → AllByRecursion (λ t. nat_lt 0 t.0.durable ≡ true → from ≤ moves_since t.0.changes t.1.member.changes) ts → AllByRecursion (IsAskedFor shape (moves_on movers) from) ts
     all_both [] owned bounds = tt
     all_both (t ∷ ts) owned bounds = (
-      (λ stored. (day_given t (are t.1.durable ∙ ap (option_map (moving_of shape)) (owned.0 stored)), bounds.0 stored)),
+      (λ stored. (day_given t (are t.1.member.durable ∙ ap (option_map (moving_of shape)) (owned.0 stored)), bounds.0 stored)),
       all_both ts owned.1 bounds.1,
     )
 
@@ -295,12 +295,12 @@ rekeyed_again before facts again same are = all_permuted (λ f. (old : Fact) × 
 
 pub owner_more : (shape : Shape) (ts : List TouchedMember) (i : ℕ) (t : TouchedMember) (durable : ℕ) → i < length ts → t ≡ get_or ts i t
     → option_map (moving_of shape) (owner_in (map pair_of (drop i ts)) durable)
-    ≡ cond (nat_lt 0 t.stored.now.durable && (t.after.now.durable == durable)) (Some (moving_of shape (pair_of t))) (option_map (moving_of shape) (owner_in (map pair_of (drop (i + 1) ts)) durable))
+    ≡ cond (nat_lt 0 t.stored.now.durable && (t.after.member.now.durable == durable)) (Some (moving_of shape (pair_of t))) (option_map (moving_of shape) (owner_in (map pair_of (drop (i + 1) ts)) durable))
 owner_more shape ts i t durable within stands =
     ap (λ us. option_map (moving_of shape) (owner_in (map pair_of us) durable)) (next_is ts i t within stands)
-    ∙ chosen (nat_lt 0 t.stored.now.durable && (t.after.now.durable == durable))
+    ∙ chosen (nat_lt 0 t.stored.now.durable && (t.after.member.now.durable == durable))
   where
-    rest : Option (Member × Member)
+    rest : Option (Member × RenderedMember)
     rest = owner_in (map pair_of (drop (i + 1) ts)) durable
 
     chosen : (b : Bool) → option_map (moving_of shape) (cond b (Some (pair_of t)) rest) ≡ cond b (Some (moving_of shape (pair_of t))) (option_map (moving_of shape) rest)

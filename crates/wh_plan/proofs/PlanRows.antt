@@ -13,11 +13,12 @@ use Rattle.wh_policy.specs.declared.attribute.Dim.{Dim}
 use Rattle.wh_policy.specs.declared.attribute.Dim.TheVariants.{Customer}
 use Rattle.wh_policy.specs.declared.policy.Policy.{Policy}
 use Rattle.wh_policy.specs.declared.record.DimensionRecord.{DimensionRecord}
-use Rattle.wh_history.specs.Accepted.{Accepted, Describes, types_in, durable_key, profiles_of}
+use Rattle.wh_history.specs.Accepted.{Accepted, Describes, types_in, durable_key, member_of, profiles_of}
 use Rattle.wh_history.specs.Laws.{RecordsHaveDays, governs}
 use Rattle.wh_history.specs.Plan.{IsRowPlan, row_of}
 use Rattle.wh_history.specs.Known.{KnowsEnough}
 use Rattle.wh_history.specs.Rows.{rows_by}
+use Rattle.wh_history.specs.Shapes.{RenderedMember, Shape, rendered_in, shape_rows}
 use Rattle.wh_history.specs.Tables.{member_rows, dimension_row}
 use Rattle.wh_history.specs.Touched.{touched_by}
 use Rattle.wh_history.specs.declared.member.Member.{Member}
@@ -25,11 +26,15 @@ use Rattle.wh_history.specs.declared.plan.Edit.{Edit}
 use Rattle.wh_history.specs.declared.rows.DimRow.{DimRow}
 use Rattle.wh_history.proofs.Stays.{policy_last}
 use Rattle.wh_model.specs.Laws.{ShowsNoProfile}
+use Rattle.wh_plan.specs.MovedFacts.{pair_of}
 use Rattle.wh_plan.specs.NewRows.{naturals_told, rows_of_members, members_among}
+use Rattle.wh_plan.specs.RecordPlan.{AreTouched}
+use Rattle.wh_plan.specs.declared.records.touched.TouchedMember.{TouchedMember}
 use Rattle.wh_model.specs.Sound.{AreTypes}
 use Rattle.wh_model.proofs.GrownPlain.{none_of}
 use Rattle.wh_plan.proofs.PlanningOwners.{touched_rows_before, touched_rows_after}
-use Rattle.wh_plan.proofs.PlanningRendered.{rendered_planned}
+use Rattle.wh_plan.proofs.MovedLists.{pairs_through}
+use Rattle.wh_plan.proofs.PlanningRendered.{rendered_planned, through}
 use Rattle.wh_plan.proofs.PlanningTable.{touched_rows_are_the_plan}
 
 -- ---- one member after the other
@@ -97,17 +102,27 @@ module _ (commands : List Accepted) (c : Accepted) (dim : Dim) (records : List D
   shows_none : dim ≢ Customer → ShowsNoProfile commands dim
   shows_none other = ap (λ (o : Option Policy). list_any is_outrigger (unwrap_or (option_map (λ (p : Policy). policy_types p dim) o) [])) typed.governed ∙ none_of dim typed.policy typed.sound other
 
-  types_after : types_in dim after ≡ kinds
+  pub types_after : types_in dim after ≡ kinds
   types_after = ap (λ (o : Option Policy). unwrap_or (option_map (λ (p : Policy). policy_types p dim) o) []) (policy_last None commands c batch ∙ typed.governed) ∙ sym typed.are
 
-  pub rows_planned : (number : List (List ℕ) → Option ℕ) (touched : List Member) (stored new : List DimRow) (edits : List (Edit DimRow ℕ)) → RecordsHaveDays commands → RecordsHaveDays after → touched ≡ (touched_by dim commands after records).list
+  pub rows_planned : (number : List (List ℕ) → Option ℕ) (stored new : List DimRow) (edits : List (Edit DimRow ℕ)) → RecordsHaveDays commands → RecordsHaveDays after
       → ((key : ℕ) → row_of key stored ≡ row_of key (Left dim commands (naturals_told records)))
-      → new ≡ flat_map (rows_by kinds number) touched → AllByRecursion (KnowsEnough dim kinds number (profiles_of after)) touched
+      → new ≡ flat_map (rows_by kinds number) (touched_by dim commands after records).list → AllByRecursion (KnowsEnough dim kinds number (profiles_of after)) (touched_by dim commands after records).list
       → IsRowPlan (λ key. row_of key stored) (λ key. row_of key new) edits
       → IsRowPlan (dimension_row commands dim) (dimension_row after dim) edits
-  rows_planned number touched stored new edits days days_after list stored_is new_is enough plan =
-      let rendered = rendered_planned dim kinds number touched new new_is commands after records list types_after enough in
+  rows_planned number stored new edits days days_after stored_is new_is enough plan =
+      let rendered = rendered_planned dim kinds number (touched_by dim commands after records).list new new_is commands after records refl types_after enough in
       touched_rows_are_the_plan commands c dim records stored new edits is shows_none
       (λ key. stored_is key ∙ touched_rows_before commands c dim records key is days)
       (λ key. ap (row_of key) rendered ∙ touched_rows_after commands c dim records key is days_after)
       plan
+
+-- the rows of the touched members, out of the pairs
+pub rows_of_pairs : (shape : Shape) (before after : List Accepted) (records : List DimensionRecord) (touched : List TouchedMember) → AreTouched shape before after records touched
+    → flat_map (λ (t : TouchedMember). t.after.rows.items) touched ≡ flat_map (shape_rows shape) (touched_by shape.dim before after records).list
+rows_of_pairs shape before after records touched are =
+    let ns = naturals_told records in
+    sym (through (λ (p : Member × RenderedMember). p.1.rows) pair_of touched)
+    ∙ ap (flat_map (λ (p : Member × RenderedMember). p.1.rows)) are.pairs
+    ∙ pairs_through (λ (p : Member × RenderedMember). p.1.rows) (rendered_in shape) (member_of shape.dim before) (member_of shape.dim after) ns
+    ∙ sym (through (shape_rows shape) (member_of shape.dim after) ns)

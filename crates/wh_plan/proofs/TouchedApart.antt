@@ -7,6 +7,7 @@ use Rattle.std.proofs.lemmas.Slice.Eq.{bytes_eq-Decides}
 use Rattle.wh_policy.specs.declared.attribute.Dim.{Dim}
 use Rattle.wh_policy.specs.declared.record.DimensionRecord.{DimensionRecord}
 use Rattle.wh_history.specs.Accepted.{Accepted, durable_key, member_of, members}
+use Rattle.wh_history.specs.Shapes.{RenderedMember, Shape, rendered_in}
 use Rattle.wh_history.specs.declared.member.Member.{Member}
 use Rattle.wh_history.proofs.Basics.{or_none}
 use Rattle.wh_history.proofs.Growth.{durable_stays}
@@ -17,12 +18,15 @@ use Rattle.wh_plan.specs.OnePass.{AreApart, owner_in}
 use Rattle.wh_plan.proofs.PlanningMembers.{naturals}
 use Rattle.wh_plan.proofs.PlanningOwners.{above_none}
 
-module _ (dim : Dim) (commands : List Accepted) (c : Accepted) where
+module _ (shape : Shape) (commands : List Accepted) (c : Accepted) where
+  abbrev dim : Dim
+  dim = shape.dim
+
   abbrev after : List Accepted
   after = commands ++ c ∷ []
 
-  abbrev pairs : List (List ℕ) → List (Member × Member)
-  pairs ns = zip (map (member_of dim commands) ns) (map (member_of dim after) ns)
+  abbrev pairs : List (List ℕ) → List (Member × RenderedMember)
+  pairs ns = zip (map (member_of dim commands) ns) (map (rendered_in shape) (map (member_of dim after) ns))
 
   others : (n : List ℕ) → 0 < durable_key dim commands n → (ms : List (List ℕ)) → list_any (λ m. bytes_eq m n) ms ≡ false → owner_in (pairs ms) (durable_key dim after n) ≡ None
   others n given [] apart = refl
@@ -31,7 +35,7 @@ module _ (dim : Dim) (commands : List Accepted) (c : Accepted) where
       go (nat_lt 0 (durable_key dim commands m)) (durable_key dim after m == durable_key dim after n) refl refl split.0 (others n given ms split.1)
     where
       go : (stored mine : Bool) → nat_lt 0 (durable_key dim commands m) ≡ stored → (durable_key dim after m == durable_key dim after n) ≡ mine → bytes_eq m n ≡ false
-          → owner_in (pairs ms) (durable_key dim after n) ≡ None → cond (stored && mine) (Some (member_of dim commands m, member_of dim after m)) (owner_in (pairs ms) (durable_key dim after n)) ≡ None
+          → owner_in (pairs ms) (durable_key dim after n) ≡ None → cond (stored && mine) (Some (member_of dim commands m, rendered_in shape (member_of dim after m))) (owner_in (pairs ms) (durable_key dim after n)) ≡ None
       go true true is_stored is_mine other rest =
           let its : 0 < durable_key dim commands m = above_none (durable_key dim commands m) is_stored in
           let same : durable_key dim commands m ≡ durable_key dim commands n =
@@ -42,9 +46,9 @@ module _ (dim : Dim) (commands : List Accepted) (c : Accepted) where
       go true false is_stored is_mine other rest = rest
       go false mine is_stored is_mine other rest = rest
 
-  pub apart_once : (ns : List (List ℕ)) → IsOnce bytes_eq bytes_eq-Decides ns → AreApart (zip (map (member_of dim commands) ns) (map (member_of dim (commands ++ c ∷ [])) ns))
+  pub apart_once : (ns : List (List ℕ)) → IsOnce bytes_eq bytes_eq-Decides ns → AreApart (zip (map (member_of shape.dim commands) ns) (map (rendered_in shape) (map (member_of shape.dim (commands ++ c ∷ [])) ns)))
   apart_once [] once = tt
   apart_once (n ∷ ns) once = ((λ stored. others n (above_none (durable_key dim commands n) stored) ns once.0), apart_once ns once.1)
 
-pub touched_apart : (dim : Dim) (commands : List Accepted) (c : Accepted) (rs : List DimensionRecord) → AreApart (zip (map (member_of dim commands) (naturals_told rs)) (map (member_of dim (commands ++ c ∷ [])) (naturals_told rs)))
-touched_apart dim commands c rs = apart_once dim commands c (naturals_told rs) (once_distinct bytes_eq bytes_eq-Decides (naturals rs))
+pub touched_apart : (shape : Shape) (commands : List Accepted) (c : Accepted) (rs : List DimensionRecord) → AreApart (zip (map (member_of shape.dim commands) (naturals_told rs)) (map (rendered_in shape) (map (member_of shape.dim (commands ++ c ∷ [])) (naturals_told rs))))
+touched_apart shape commands c rs = apart_once shape commands c (naturals_told rs) (once_distinct bytes_eq bytes_eq-Decides (naturals rs))

@@ -39,9 +39,13 @@ rows_brought Product rows = rows.products
 rows_brought Store rows = rows.stores
 rows_brought Customer rows = rows.customers
 
--- edits of one dimension's rows, as those of another or the same
-abbrev pub in_dimension : Dim → Dim → List (Edit DimRow ℕ) → List (Edit DimRow ℕ)
-in_dimension other dim edits = if same_dim other dim then edits else []
+-- with other edits of one dimension's rows
+abbrev pub with_rows : Dim → List (Edit DimRow ℕ) → BatchRows → BatchRows
+with_rows dim edits rows = record rows {
+  products = if same_dim Product dim then edits else rows.products;
+  stores = if same_dim Store dim then edits else rows.stores;
+  customers = if same_dim Customer dim then edits else rows.customers;
+}
 
 -- the numbers after a number, up to another
 abbrev pub numbers_after : ℕ → ℕ → List ℕ

@@ -1,26 +1,29 @@
 -- Which stored facts a batch of records moves.
-use Rattle.std.specs.Prelude.{◌≡◌, ◌⊎◌, ◌<◌, ℕ, nat_lt, if◌then◌else◌, List, [], ◌∷◌, ◌++◌, filter, filter_map, flat_map, Option, Some}
+use Rattle.std.specs.Prelude.{◌≡◌, ◌⊎◌, ◌<◌, ℕ, nat_lt, if◌then◌else◌, List, [], ◌∷◌, ◌++◌, filter, filter_map, flat_map, Option, None, Some}
 use Rattle.std.specs.FinMap.{FinMap, values}
+use Rattle.std.specs.List.Sorted.{IsPermutation}
 use Rattle.std.specs.Ordering.{eq_by_cmp, nat_cmp}
 use Rattle.wh_policy.specs.declared.attribute.Dim.{Dim}
 use Rattle.wh_policy.specs.declared.attribute.Dim.TheVariants.{Product, Store, Customer}
 use Rattle.wh_policy.specs.declared.record.DimensionRecord.{DimensionRecord}
 use Rattle.wh_policy.specs.declared.record.SaleRecord.{SaleRecord}
-use Rattle.wh_history.specs.Accepted.{Accepted, Describes, member_of, durable_key, member_of_sale, sold}
+use Rattle.wh_history.specs.Accepted.{Accepted, Describes, member_of, durable_key, member_of_sale, profiles_of, sold}
 use Rattle.wh_history.specs.Facts.{rekeyed_fact}
 use Rattle.wh_history.specs.Keys.{at_place}
+use Rattle.wh_history.specs.Known.{KnowsEnough}
 use Rattle.wh_history.specs.MovingDays.{moves_since, moves_until}
-use Rattle.wh_history.specs.Shapes.{Shape, shape_after, rendered_in}
+use Rattle.wh_history.specs.Shapes.{RenderedMember, Shape, shape_after, rendered_in, shown}
 use Rattle.wh_history.specs.Tables.{Limits, fact_of}
 use Rattle.wh_history.specs.declared.facts.Fact.{Fact}
 use Rattle.wh_history.specs.declared.member.Member.{Member}
 use Rattle.wh_rows.specs.Facts.{facts_of}
 use Rattle.wh_rows.specs.Rows as row
 use Rattle.wh_rows.specs.Tables.{Tables}
+use Rattle.wh_rows.specs.declared.key.LineKey.{LineKey}
 use Rattle.wh_rows.specs.Questions.{durable_of, is_sold_between}
 use Rattle.wh_model.specs.Defined.{AreOf, fact_at}
 use Rattle.wh_model.specs.Laws.{ShowsNoProfile}
-use Rattle.wh_model.specs.Sound.{IsAccepted}
+use Rattle.wh_model.specs.Sound.{AreTypes, IsAccepted}
 use Rattle.wh_plan.specs.BatchRows.{AreFacts, AreRekeyed}
 use Rattle.wh_plan.specs.declared.records.touched.TouchedMember.{TouchedMember}
 use Rattle.wh_plan.specs.NewRows.{members_among, naturals_told}
@@ -41,14 +44,14 @@ rekeyed_facts shape m facts = filter_map (rekeyed_fact shape (rendered_in shape 
 abbrev pub facts_between : FinMap row.fact.order Fact → Dim → ℕ → ℕ → ℕ → List Fact
 facts_between table dim durable from to = filter (is_sold_between dim durable from to) (values table)
 
--- a member that a batch touches, as it is stored and as it is after the batch
-abbrev pub pair_of : TouchedMember → Member × Member
-pair_of t = (t.stored.now, t.after.now)
+-- a member that a batch touches, as it is stored, and with its rows as it is after the batch
+abbrev pub pair_of : TouchedMember → Member × RenderedMember
+pair_of t = (t.stored.now, shown t.after)
 
 -- of a table of facts those of a touched member that move; one that isn't stored has none
-abbrev pub moved_of_touched : Shape → FinMap row.fact.order Fact → Member × Member → List Fact
+abbrev pub moved_of_touched : Shape → FinMap row.fact.order Fact → Member × RenderedMember → List Fact
 moved_of_touched shape table t =
-    if nat_lt 0 t.0.durable then rekeyed_facts shape t.1 (facts_between table shape.dim t.1.durable (moves_since t.0.changes t.1.changes) (moves_until (rendered_in shape t.0) (rendered_in shape t.1)))
+    if nat_lt 0 t.0.durable then filter_map (rekeyed_fact shape t.1) (facts_between table shape.dim t.1.member.durable (moves_since t.0.changes t.1.member.changes) (moves_until (rendered_in shape t.0) t.1))
     else []
 
 -- of a table of the facts of some commands, those of one member that move under others, with their new keys
@@ -67,6 +70,28 @@ MovedFactsAreExact = (limits : Limits) (commands : List Accepted) (c : Accepted)
     → AreOf limits commands t
     → AreFacts (fact_at commands) (fact_at (commands ++ c ∷ [])) (moves_of_members commands (commands ++ c ∷ []) (facts_of t) dim (members_among commands dim (naturals_told records)))
     × AreRekeyed (fact_at commands) (moves_of_members commands (commands ++ c ∷ []) (facts_of t) dim (members_among commands dim (naturals_told records)))
+
+-- the fact, where it carries a durable key of a dimension
+abbrev pub with_durable : Dim → ℕ → Option Fact → Option Fact
+with_durable dim durable None = None
+with_durable dim durable (Some f) = if eq_by_cmp nat_cmp durable (durable_of dim f) then Some f else None
+
+-- the fact of a line, where it is a member's
+abbrev pub fact_of_member : List Accepted → Dim → List ℕ → LineKey → Option Fact
+fact_of_member commands dim natural key = with_durable dim (durable_key dim commands natural) (fact_at commands key)
+
+-- Of a stored member's facts, in any order, those that move by its rows with a batch of records are exactly what leads from the member's facts of the commands to its facts with the batch;
+-- of each nothing but its keys changes.
+abbrev pub PlannedFactsAreExact : Type 0
+PlannedFactsAreExact = (limits : Limits) (commands : List Accepted) (c : Accepted) (records : List DimensionRecord) (shape : Shape) (natural : List ℕ) (t : Tables) (facts : List Fact)
+    → c.content ≡ Describes shape.dim records
+    → AreTypes commands shape.dim shape.kinds
+    → KnowsEnough shape.dim shape.kinds shape.number (profiles_of (commands ++ c ∷ [])) (member_of shape.dim (commands ++ c ∷ []) natural)
+    → AreOf limits commands t
+    → 0 < durable_key shape.dim commands natural
+    → IsPermutation (facts_with (facts_of t) shape.dim (durable_key shape.dim commands natural)) facts
+    → AreFacts (fact_of_member commands shape.dim natural) (fact_of_member (commands ++ c ∷ []) shape.dim natural) (rekeyed_facts shape (member_of shape.dim (commands ++ c ∷ []) natural) facts)
+    × AreRekeyed (fact_of_member commands shape.dim natural) (rekeyed_facts shape (member_of shape.dim (commands ++ c ∷ []) natural) facts)
 
 -- the day is before or after those of which a touched member's facts are asked for
 abbrev pub IsOutside : List Accepted → List Accepted → Dim → List ℕ → ℕ → Type 0

@@ -1,5 +1,5 @@
 -- The facts that touched members move, as one pass over the facts finds them.
-use Rattle.std.specs.Prelude.{◌≡◌, ℕ, ◌≤◌, ◌==◌, nat_le, nat_lt, Bool, true, if◌then◌else◌, ◌&&◌, List, [], ◌∷◌, filter, find, flat_map, Option, None, Some, option_map, is_some}
+use Rattle.std.specs.Prelude.{◌≡◌, ℕ, ◌≤◌, ◌==◌, nat_le, nat_lt, Bool, true, if◌then◌else◌, ◌&&◌, List, [], ◌∷◌, filter, filter_map, find, flat_map, Option, None, Some, option_map, is_some}
 use Rattle.std.specs.BTreeMap.{get}
 use Rattle.std.specs.Option.{option_and_then, option_to_list}
 use Rattle.std.specs.Ordering.{nat_cmp}
@@ -9,7 +9,6 @@ use Rattle.wh_history.specs.Shapes.{RenderedMember, Shape, rendered_in, shown}
 use Rattle.wh_history.specs.declared.facts.Fact.{Fact}
 use Rattle.wh_history.specs.declared.member.Member.{Member}
 use Rattle.wh_rows.specs.Questions.{durable_of}
-use Rattle.wh_plan.specs.MovedFacts.{rekeyed_facts}
 use Rattle.wh_plan.specs.declared.records.moved_facts.MovingMember.{MovingMember}
 use Rattle.wh_plan.specs.declared.records.moved_facts.MovingMembers.{MovingMembers}
 
@@ -22,8 +21,8 @@ pub record Moving : Type 0 where
   pub until : ℕ
 
 -- what a batch makes of a touched member
-abbrev pub moving_of : Shape → Member × Member → Moving
-moving_of shape t = record { rows = rendered_in shape t.1; since = moves_since t.0.changes t.1.changes; until = moves_until (rendered_in shape t.0) (rendered_in shape t.1) }
+abbrev pub moving_of : Shape → Member × RenderedMember → Moving
+moving_of shape t = record { rows = t.1; since = moves_since t.0.changes t.1.member.changes; until = moves_until (rendered_in shape t.0) t.1 }
 
 -- the day is between those of the member
 abbrev pub is_within : Moving → ℕ → Bool
@@ -35,13 +34,13 @@ on_day None day = None
 on_day (Some m) day = if is_within m day then Some m.rows else None
 
 -- of touched members that are stored, the one of a durable key
-abbrev pub owner_in : List (Member × Member) → ℕ → Option (Member × Member)
-owner_in touched durable = find (λ t. nat_lt 0 t.0.durable && (t.1.durable == durable)) touched
+abbrev pub owner_in : List (Member × RenderedMember) → ℕ → Option (Member × RenderedMember)
+owner_in touched durable = find (λ t. nat_lt 0 t.0.durable && (t.1.member.durable == durable)) touched
 
 -- no two that are stored have one durable key
-abbrev pub AreApart : List (Member × Member) → Type 0
+abbrev pub AreApart : List (Member × RenderedMember) → Type 0
 AreApart [] = Unit {0}
-AreApart (t ∷ ts) = (nat_lt 0 t.0.durable ≡ true → owner_in ts t.1.durable ≡ None) × AreApart ts
+AreApart (t ∷ ts) = (nat_lt 0 t.0.durable ≡ true → owner_in ts t.1.member.durable ≡ None) × AreApart ts
 
 -- the earlier one of two days, where the second is known
 abbrev pub earlier : ℕ → Option ℕ → ℕ
@@ -49,18 +48,18 @@ earlier day None = day
 earlier day (Some other) = if nat_lt other day then other else day
 
 -- the first day of which the batch can move a fact, with one more touched member
-abbrev pub with_first : Member × Member → Option ℕ → Option ℕ
-with_first t first = if nat_lt 0 t.0.durable then Some (earlier (moves_since t.0.changes t.1.changes) first) else first
+abbrev pub with_first : Member × RenderedMember → Option ℕ → Option ℕ
+with_first t first = if nat_lt 0 t.0.durable then Some (earlier (moves_since t.0.changes t.1.member.changes) first) else first
 
 -- the same of all; none if no touched member is stored
-abbrev pub first_moving : List (Member × Member) → Option ℕ
+abbrev pub first_moving : List (Member × RenderedMember) → Option ℕ
 first_moving [] = None
 first_moving (t ∷ ts) = with_first t (first_moving ts)
 
 -- ---- by their durable keys
 
 abbrev pub seen : MovingMember → Moving
-seen m = record { rows = shown m.rows; since = m.since; until = m.until }
+seen m = record { rows = shown m.rows.now; since = m.since; until = m.until }
 
 -- the member of a durable key
 abbrev pub mover : MovingMembers → ℕ → Option Moving
@@ -77,21 +76,21 @@ moved_fact shape movers f = option_and_then (λ rows. rekeyed_fact shape rows f)
 -- ---- what was found
 
 -- the days of a touched member, if it is stored, are asked for, and none of them is before this day
-abbrev pub IsAskedFor : Shape → (ℕ → ℕ → Bool) → ℕ → Member × Member → Type 0
-IsAskedFor shape has from t = nat_lt 0 t.0.durable ≡ true → ((day : ℕ) → is_within (moving_of shape t) day ≡ true → has t.1.durable day ≡ true) × (from ≤ moves_since t.0.changes t.1.changes)
+abbrev pub IsAskedFor : Shape → (ℕ → ℕ → Bool) → ℕ → Member × RenderedMember → Type 0
+IsAskedFor shape has from t = nat_lt 0 t.0.durable ≡ true → ((day : ℕ) → is_within (moving_of shape t) day ≡ true → has t.1.member.durable day ≡ true) × (from ≤ moves_since t.0.changes t.1.member.changes)
 
 -- a fact is of the touched member, and of a day on which the batch can move it
-abbrev pub can_move : Shape → Member × Member → Fact → Bool
-can_move shape t f = (t.1.durable == durable_of shape.dim f) && is_within (moving_of shape t) f.day
+abbrev pub can_move : Shape → Member × RenderedMember → Fact → Bool
+can_move shape t f = (t.1.member.durable == durable_of shape.dim f) && is_within (moving_of shape t) f.day
 
 -- of the facts that were found those of a touched member that move; one that isn't stored has none
-abbrev pub moved_of_found : Shape → List Fact → Member × Member → List Fact
-moved_of_found shape found t = if nat_lt 0 t.0.durable then rekeyed_facts shape t.1 (filter (can_move shape t) found) else []
+abbrev pub moved_of_found : Shape → List Fact → Member × RenderedMember → List Fact
+moved_of_found shape found t = if nat_lt 0 t.0.durable then filter_map (rekeyed_fact shape t.1) (filter (can_move shape t) found) else []
 
 -- a fact with the keys that a touched member gives it, where they are others
-abbrev pub moved_by : Shape → Fact → Member × Member → Option Fact
-moved_by shape f t = if nat_lt 0 t.0.durable && can_move shape t f then rekeyed_fact shape (rendered_in shape t.1) f else None
+abbrev pub moved_by : Shape → Fact → Member × RenderedMember → Option Fact
+moved_by shape f t = if nat_lt 0 t.0.durable && can_move shape t f then rekeyed_fact shape t.1 f else None
 
 -- what the touched members make of a fact
-abbrev pub moves_of_fact : Shape → List (Member × Member) → Fact → List Fact
+abbrev pub moves_of_fact : Shape → List (Member × RenderedMember) → Fact → List Fact
 moves_of_fact shape touched f = flat_map (λ t. option_to_list (moved_by shape f t)) touched

@@ -4,7 +4,7 @@ ghost use Rattle.std.specs.Prelude.{◌≡◌, ◌++◌, ◌∷◌, [], false, L
 ghost use Rattle.wh_history.specs.Accepted.{Accepted, format_of, withdrawn_by};
 ghost use Rattle.wh_history.specs.Laws.{governs};
 ghost use Rattle.wh_history.specs.declared.plan.Edit.TheVariants.{Put};
-ghost use Rattle.wh_plan.specs.BatchRows.{AreBatchRows};
+ghost use Rattle.wh_plan.specs.BatchRows.{with_rows, AreBatchRows};
 ghost use Rattle.wh_plan.specs.Edits.{AreEdits};
 
 use crate::edits::{Edits, FactEdit};
@@ -12,7 +12,7 @@ use crate::fact_edits::in_tables;
 use std::alloc::{AllocError, Global};
 use std::marker::Model;
 use wh_history::{DimRow, Edit};
-use wh_policy::Format;
+use wh_policy::{Dim, Format};
 use wh_rows::{ChangeRow, CommandRow, MemberRow, ProfileRow};
 
 /// What a batch brings: its own row, the rows of the members that it is the first to mention, of its records and of the profiles
@@ -44,6 +44,19 @@ impl Model for BatchRows {
       stores = r.stores.items;
       customers = r.customers.items;
     } };
+}
+
+impl BatchRows {
+    /// Sets the edits of the rows of one dimension.
+    pub(crate) fn set_rows(&mut self, dim: Dim, edits: Vec<Edit<DimRow, u64>>)
+        ensures { self.new ≡ with_rows dim edits.items self.old }
+    {
+        match dim {
+            Dim::Product => self.products = edits,
+            Dim::Store => self.stores = edits,
+            Dim::Customer => self.customers = edits,
+        }
+    }
 }
 
 /// Rows as edits that put them.

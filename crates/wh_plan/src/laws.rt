@@ -1,6 +1,6 @@
 //! Laws of the tables that accepted commands define. They speak of the definitions alone and do nothing.
 
-ghost use Rattle.wh_plan.specs.MovedFacts.{FactsOutsideTheDaysStay, MovedFactsAreExact};
+ghost use Rattle.wh_plan.specs.MovedFacts.{FactsOutsideTheDaysStay, MovedFactsAreExact, PlannedFactsAreExact};
 ghost use Rattle.wh_plan.specs.Laws.{CommandsMayBeWritten, EditsAreWritten, ExactEditsAreOne, NoEditsStay, SalesAreFacts, SalesPutPlaceholders, TouchedRowsAfter, TouchedRowsAreThePlan, TouchedRowsBefore};
 
 /// Exact edits lead from the tables of some accepted commands to the tables of others, all of them.
@@ -34,6 +34,13 @@ pub fn touched_rows_are_the_plan()
 /// from the facts of the commands so far to the facts with it; of each only the keys change.
 pub fn moved_facts_are_exact()
     ensures { MovedFactsAreExact }
+{}
+
+/// The facts that `DimensionShape::plan_member` moves, where it is handed a stored member's facts in whatever order and the member
+/// as it is with a batch of records, are exactly what leads from the member's facts of the commands so far to its facts with the
+/// batch; of each only the keys change.
+pub fn planned_facts_are_exact()
+    ensures { PlannedFactsAreExact }
 {}
 
 /// With a batch of records a member's facts of the days that aren't asked for stay as they were.

@@ -1,18 +1,15 @@
 //! What a batch writes, from the members that it touches.
 
-ghost use Rattle.std.specs.Prelude.{◌≡◌, ◌++◌, ◌∷◌, [], List, length, filter_map, flat_map, IfOk};
-ghost use Rattle.std.specs.List.{AllByRecursion};
-ghost use Rattle.wh_history.specs.Accepted.{Accepted, Describes, members, profiles_of, types_in};
-ghost use Rattle.wh_history.specs.Known.{number_in, KnowsEnough};
-ghost use Rattle.wh_history.specs.Shapes.{shape_of, shape_rows};
+ghost use Rattle.std.specs.Prelude.{◌≡◌, ◌++◌, ◌∷◌, [], List, length, filter_map, IfOk};
+ghost use Rattle.wh_history.specs.Accepted.{Accepted, Describes, members};
 ghost use Rattle.wh_history.specs.Touched.{touched_by};
 ghost use Rattle.wh_model.specs.Defined.{member_at, change_at};
 ghost use Rattle.wh_plan.specs.BatchRows.{numbers_after};
-ghost use Rattle.wh_plan.specs.NewRows.{Records, rows_of_members, naturals_told, by_place, row_of_member, new_member, row_of_record, new_change};
+ghost use Rattle.wh_plan.specs.NewRows.{Records, by_place, row_of_member, new_member, row_of_record, new_change};
 
 use crate::by_natural::by_natural;
 use std::alloc::{AllocError, Global};
-use wh_history::{DimRow, DimensionShape, Member, anchor_of_day, six_texts};
+use wh_history::{Member, anchor_of_day, six_texts};
 use wh_policy::{Dim, DimensionRecord};
 use wh_rows::{ChangeKey, ChangeRow, MemberRow};
 
@@ -93,25 +90,4 @@ pub fn new_change_rows(
         }
     }
     Ok(rows)
-}
-
-/// The rows of the touched members, one member after the other.
-pub fn rows_of_members(
-    alloc: Global,
-    dimension: &DimensionShape,
-    touched: &[Member],
-) -> Result<Vec<DimRow>, AllocError>
-    ensures rows { IfOk result (λ found. found.items ≡ flat_map (shape_rows (shape_of dimension.now)) touched.now) }
-    // Under the policy in force with a batch, where enough is known of the members' profiles, they are the rows that the members have then.
-    ensures planned { (before after : List Accepted) (records : Records) → touched.now ≡ (touched_by dimension.now.dim before after records).list
-        → types_in dimension.now.dim after ≡ dimension.now.types.now
-        → AllByRecursion (KnowsEnough dimension.now.dim dimension.now.types.now (number_in dimension.now.profiles.now) (profiles_of after)) touched.now
-        → IfOk result (λ found. found.items ≡ rows_of_members after dimension.now.dim (naturals_told records)) }
-{
-    let mut found = Vec::new(alloc);
-    for member in touched {
-        let mut rows = dimension.rows_of(alloc, member)?;
-        found.append(&mut rows)?;
-    }
-    Ok(found)
 }

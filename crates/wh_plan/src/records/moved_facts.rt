@@ -1,38 +1,29 @@
 //! The stored facts that a batch of dimension records moves.
 
-ghost use Rattle.std.specs.Prelude.{◌≡◌, ℕ, ◌==◌, nat_lt, ◌&&◌, if◌then◌else◌, ◌++◌, ◌∷◌, [], Some, filter_map, flat_map, map, option_map, IfOk, OnOk};
-ghost use Rattle.std.specs.List.{AllByRecursion};
-ghost use Rattle.std.specs.List.Sorted.{IsPermutation};
-ghost use Rattle.wh_history.specs.Accepted.{Accepted, Describes, format_of, member_of, profiles_of};
+ghost use Rattle.std.specs.Prelude.{◌≡◌, ℕ, ◌==◌, nat_lt, ◌&&◌, if◌then◌else◌, Some, filter_map, map, option_map, IfOk, OnOk};
+ghost use Rattle.wh_history.specs.Accepted.{format_of};
 ghost use Rattle.wh_history.specs.Facts.{rekeyed_fact};
-ghost use Rattle.wh_history.specs.Known.{number_in, KnowsEnough};
 ghost use Rattle.wh_history.specs.Shapes.{shape_of, shown};
-ghost use Rattle.wh_history.specs.Touched.{touched_by};
-ghost use Rattle.wh_model.specs.Defined.{fact_at};
-ghost use Rattle.wh_rows.specs.Facts.{facts_in};
 ghost use Rattle.wh_rows.specs.Questions.{durable_of};
-ghost use Rattle.wh_plan.specs.BatchRows.{AreFacts, AreRekeyed};
-ghost use Rattle.wh_plan.specs.MovedFacts.{moved_of_touched, pair_of};
-ghost use Rattle.wh_plan.specs.NewRows.{Records, naturals_told};
-ghost use Rattle.wh_plan.specs.OnePass.{AreApart, first_moving, moved_fact, mover, moving_of, on_day, owner_in, seen, with_first};
+ghost use Rattle.wh_plan.specs.MovedFacts.{pair_of};
+ghost use Rattle.wh_plan.specs.OnePass.{first_moving, moved_fact, mover, moving_of, on_day, owner_in, seen, with_first};
 ghost use Rattle.wh_plan.specs.RecordPlan.{MovesFacts};
 ghost use Rattle.wh_store.specs.Reads.{ReadsOnly, state_of};
-ghost use Rattle.wh_plan.specs.Reads.{Finds, Tells};
-ghost use Rattle.wh_model.specs.Sound.{AreTypes, IsAccepted};
+ghost use Rattle.wh_plan.specs.Reads.{Finds};
 
-use crate::records::touched::{TouchedMember, touched_pairs};
+use crate::records::touched::TouchedMember;
 use sqlite::Alter;
 use std::alloc::{AllocError, Global};
 use std::collections::BTreeMap;
 use wh_day::Day;
-use wh_history::{DimensionShape, Fact, Member, RenderedRows, moves_since};
+use wh_history::{DimensionShape, Fact, RenderedRows};
 use wh_policy::{Dim, Format};
 use wh_store::{ReadFault, SomeMembers, Tables};
 
 /// A stored member as it is after a batch, and the keys of the first and the last day of which the batch can move its facts.
 #[derive(Drop)]
 struct MovingMember<'a> {
-    rows: RenderedRows<'a>,
+    rows: &'a RenderedRows<'a>,
     since: u64,
     until: u64,
 }
@@ -59,7 +50,7 @@ impl<'a> MovingMembers<'a> {
         ensures { option_map (λ rows. shown rows.now) result ≡ on_day (mover self.now durable) day }
     {
         match self.by_durable.get(&durable) {
-            Some(member) if member.since <= day && day <= member.until => Some(&member.rows),
+            Some(member) if member.since <= day && day <= member.until => Some(member.rows),
             _ => None,
         }
     }
@@ -69,15 +60,16 @@ impl<'a> MovingMembers<'a> {
         &mut self,
         alloc: Global,
         dimension: &DimensionShape,
-        touched: &TouchedMember<'a>,
+        touched: &'a TouchedMember<'a>,
     ) -> Result<(), AllocError>
-        ensures { OnOk result ((durable : ℕ) → mover self.new durable ≡ (if nat_lt 0 touched.now.stored.now.durable && (touched.now.after.now.durable == durable) then Some (moving_of (shape_of dimension.now) (pair_of touched.now)) else mover self.old durable)) }
+        ensures { OnOk result ((durable : ℕ) → mover self.new durable ≡ (if nat_lt 0 touched.now.stored.now.durable && (touched.now.after.member.now.durable == durable) then Some (moving_of (shape_of dimension.now) (pair_of touched.now)) else mover self.old durable)) }
     {
         if touched.stored.durable == 0 {
             return Ok(());
         }
         let member = moving_member(alloc, dimension, touched)?;
-        self.by_durable.insert(touched.after.durable, member)?;
+        self.by_durable
+            .insert(touched.after.member.durable, member)?;
         Ok(())
     }
 }
@@ -86,18 +78,14 @@ impl<'a> MovingMembers<'a> {
 fn moving_member<'a>(
     alloc: Global,
     dimension: &DimensionShape,
-    touched: &TouchedMember<'a>,
+    touched: &'a TouchedMember<'a>,
 ) -> Result<MovingMember<'a>, AllocError>
     ensures { IfOk result (λ m. seen m ≡ moving_of (shape_of dimension.now) (pair_of touched.now)) }
 {
-    let rows = dimension.rendered(alloc, touched.after)?;
-    let until = dimension.moves_until(alloc, touched.stored, &rows)?;
-    let since = moves_since(
-        touched.stored.changes.as_slice(),
-        touched.after.changes.as_slice(),
-    );
+    let since = touched.moves_since();
+    let until = dimension.moves_until(alloc, touched.stored, &touched.after)?;
     Ok(MovingMember {
-        rows,
+        rows: &touched.after,
         since: u64::from(since.key()),
         until: u64::from(until.key()),
     })
@@ -107,7 +95,7 @@ fn moving_member<'a>(
 fn moving_members<'a>(
     alloc: Global,
     dimension: &DimensionShape,
-    touched: &[TouchedMember<'a>],
+    touched: &'a [TouchedMember<'a>],
 ) -> Result<MovingMembers<'a>, AllocError>
     ensures { IfOk result (λ m. (durable : ℕ) → mover m durable ≡ option_map (moving_of (shape_of dimension.now)) (owner_in (map pair_of touched.now) durable)) }
 {
@@ -129,10 +117,7 @@ fn with_first(first: Option<Day>, touched: &TouchedMember) -> Option<Day>
     if touched.stored.durable == 0 {
         return first;
     }
-    let since = moves_since(
-        touched.stored.changes.as_slice(),
-        touched.after.changes.as_slice(),
-    );
+    let since = touched.moves_since();
     match first {
         Some(day) if day < since => Some(day),
         _ => Some(since),
@@ -197,8 +182,9 @@ fn moved_facts(
     Ok(moved)
 }
 
-/// The facts of touched members whose keys change, with their new keys, in whatever order they are stored. Members that aren't stored have none.
-fn moved_of_members<S: Alter>(
+/// The facts of the touched members whose keys change with a batch of records, with their new keys. Members that aren't stored have
+/// none.
+pub(crate) fn facts_to_move<S: Alter>(
     tables: &mut Tables<S>,
     alloc: Global,
     format: Format,
@@ -206,7 +192,8 @@ fn moved_of_members<S: Alter>(
     touched: &[TouchedMember],
 ) -> Result<Vec<Fact>, ReadFault>
     ensures reads { ReadsOnly (state_of S.Store tables.old) (state_of S.Store tables.new) result }
-    ensures moved { Tells (state_of S.Store tables.old) (state_of S.Store tables.new) result (λ t facts. AreApart (map pair_of touched.now) → IsPermutation (flat_map (moved_of_touched (shape_of dimension.now) (facts_in format t)) (map pair_of touched.now)) facts.items) }
+    // They are what leads from the facts of the commands so far to those with the batch.
+    ensures moved { Finds (state_of S.Store tables.old) (state_of S.Store tables.new) (λ limits commands. format ≡ format_of commands → MovesFacts limits commands dimension.now touched.now result) }
 {
     let Some(from) = first_moving(touched) else {
         return Ok(Vec::new(alloc));
@@ -214,21 +201,4 @@ fn moved_of_members<S: Alter>(
     let members = moving_members(alloc, dimension, touched)?;
     let found = tables.facts_of_members(alloc, format, dimension.dim, &members, from)?;
     Ok(moved_facts(alloc, dimension, &members, &found)?)
-}
-
-/// The facts of the touched members whose keys change with a batch of records, with their new keys.
-pub(crate) fn facts_to_move<'a, S: Alter>(
-    tables: &mut Tables<S>,
-    alloc: Global,
-    format: Format,
-    dimension: &DimensionShape,
-    stored: &'a [Member],
-    after: &'a [Member],
-) -> Result<Vec<Fact>, ReadFault>
-    ensures reads { ReadsOnly (state_of S.Store tables.old) (state_of S.Store tables.new) result }
-    // They are what leads from the facts of the commands so far to those with the batch.
-    ensures moved { Finds (state_of S.Store tables.old) (state_of S.Store tables.new) (λ limits commands. format ≡ format_of commands → MovesFacts limits commands dimension.now stored.now after.now result) }
-{
-    let touched = touched_pairs(alloc, stored, after)?;
-    moved_of_members(tables, alloc, format, dimension, &touched)
 }

@@ -1,37 +1,32 @@
 //! What a batch of dimension records writes, by reads of what it touches.
 
-ghost use Rattle.std.specs.Prelude.{◌≡◌, ◌≤◌, ◌++◌, ◌∷◌, [], suc, ℕ, List, map, length, None, Some, IfOk};
-ghost use Rattle.std.specs.List.{AllByRecursion};
-ghost use Rattle.wh_policy.specs.Written.{IsSound};
-ghost use Rattle.wh_policy.specs.declared.attribute.Dim.TheVariants.{Product, Store, Customer};
-ghost use Rattle.wh_history.specs.Accepted.{Accepted, Describes, format_of, member_of, policy_after, profiles_of};
+ghost use Rattle.std.specs.Prelude.{◌≡◌, ◌≤◌, ◌++◌, ◌∷◌, [], suc, ℕ, List, map, length, Some, IfOk};
+ghost use Rattle.wh_history.specs.Accepted.{Accepted, Describes, format_of, member_of};
 ghost use Rattle.wh_history.specs.Keys.{greatest_number};
-ghost use Rattle.wh_history.specs.Known.{number_in, KnowsEnough};
 ghost use Rattle.wh_history.specs.Laws.{RecordsHaveDays};
 ghost use Rattle.wh_history.specs.Plan.{IsRowPlan, row_of};
+ghost use Rattle.wh_history.specs.Shapes.{Shape};
 ghost use Rattle.wh_history.specs.Tables.{dimension_row};
-ghost use Rattle.wh_history.specs.Touched.{touched_by};
 ghost use Rattle.wh_model.specs.Defined.{command_at};
-ghost use Rattle.wh_plan.specs.Edits.{AreEdits};
-ghost use Rattle.wh_plan.specs.BatchRows.{in_dimension, AreBatchRows};
+ghost use Rattle.wh_plan.specs.BatchRows.{AreBatchRows};
 ghost use Rattle.wh_plan.specs.NewRows.{Records, members_among, naturals_told, rows_of_members};
 ghost use Rattle.wh_plan.specs.Reading.{HaveNoEmptyValue};
 ghost use Rattle.wh_store.specs.Reads.{ReadsOnly, state_of};
 ghost use Rattle.wh_plan.specs.Reads.{Finds};
-ghost use Rattle.wh_plan.specs.RecordPlan.{IsFound, IsPlanned, PlansRecords};
+ghost use Rattle.wh_plan.specs.RecordPlan.{AreTouched, IsFound, IsPlanned, PlansRecords};
 ghost use Rattle.wh_model.specs.Sound.{AreTypes, IsAccepted};
 
 use crate::batch_rows::{BatchRows, edits_of_batch};
 use crate::edits::Edits;
 use crate::fact_edits::fact_rekeys;
 use crate::naturals::naturals_told;
-use crate::new_rows::{new_change_rows, new_member_rows, rows_of_members};
+use crate::new_rows::{new_change_rows, new_member_rows};
 use crate::numbers::{NumbersDrawn, numbers_drawn};
 use crate::profiles::learned_of;
 use crate::reading::{stored_member, stored_rows};
 use crate::records::batch::Batch;
 use crate::records::moved_facts::facts_to_move;
-use crate::records::touched::touched_members;
+use crate::records::touched::{TouchedMember, rows_after, touched_members, touched_rows};
 use crate::terms::Terms;
 use sqlite::Alter;
 use std::alloc::{AllocError, Global};
@@ -124,55 +119,28 @@ fn read_touched<S: Alter>(
     })
 }
 
-/// The edits that lead from the touched members' stored rows to those after the batch.
+/// The edits that lead from the rows of the touched members, as they are stored, to those that they have after the batch.
 fn row_edits(
     alloc: Global,
-    dimension: &DimensionShape,
-    touched: &[Member],
+    touched: Vec<TouchedMember>,
     stored: &[DimRow],
 ) -> Result<Vec<Edit<DimRow, u64>>, AllocError>
-    ensures { (commands : List Accepted) (c : Accepted) (records : Records) → c.content ≡ Describes dimension.now.dim records → AreTypes commands dimension.now.dim dimension.now.types.now
+    ensures { (shape : Shape) (commands : List Accepted) (c : Accepted) (records : Records) → c.content ≡ Describes shape.dim records → AreTypes commands shape.dim shape.kinds
         → RecordsHaveDays commands → RecordsHaveDays (commands ++ c ∷ [])
-        → touched.now ≡ (touched_by dimension.now.dim commands (commands ++ c ∷ []) records).list
-        → AllByRecursion (KnowsEnough dimension.now.dim dimension.now.types.now (number_in dimension.now.profiles.now) (profiles_of (commands ++ c ∷ []))) touched.now
-        → ((key : ℕ) → row_of key stored.now ≡ row_of key (rows_of_members commands dimension.now.dim (members_among commands dimension.now.dim (naturals_told records))))
-        → IfOk result (λ edits. IsRowPlan (dimension_row commands dimension.now.dim) (dimension_row (commands ++ c ∷ []) dimension.now.dim) edits.items) }
+        → AreTouched shape commands (commands ++ c ∷ []) records touched.entry.items
+        → ((key : ℕ) → row_of key stored.now ≡ row_of key (rows_of_members commands shape.dim (members_among commands shape.dim (naturals_told records))))
+        → IfOk result (λ edits. IsRowPlan (dimension_row commands shape.dim) (dimension_row (commands ++ c ∷ []) shape.dim) edits.items) }
 {
-    let after = rows_of_members(alloc, dimension, touched)?;
+    let after = rows_after(alloc, touched)?;
     Ok(plan_rows(alloc, stored, &after)?)
-}
-
-/// Edits of the rows of the three dimensions.
-#[derive(Drop)]
-struct RowEdits {
-    products: Vec<Edit<DimRow, u64>>,
-    stores: Vec<Edit<DimRow, u64>>,
-    customers: Vec<Edit<DimRow, u64>>,
-}
-
-/// Edits that are all of one dimension's rows.
-fn of_dimension(alloc: Global, dim: Dim, rows: Vec<Edit<DimRow, u64>>) -> RowEdits
-    ensures products { result.products.items ≡ in_dimension Product dim rows.items }
-    ensures stores { result.stores.items ≡ in_dimension Store dim rows.items }
-    ensures customers { result.customers.items ≡ in_dimension Customer dim rows.items }
-{
-    let mut edits = RowEdits {
-        products: Vec::new(alloc),
-        stores: Vec::new(alloc),
-        customers: Vec::new(alloc),
-    };
-    match dim {
-        Dim::Product => edits.products = rows,
-        Dim::Store => edits.stores = rows,
-        Dim::Customer => edits.customers = rows,
-    }
-    edits
 }
 
 /// What was read and planned for a batch before its own rows.
 #[derive(Drop)]
-pub(crate) struct BatchPlan {
-    pub(crate) found: StoredBefore,
+pub(crate) struct BatchPlan<'a> {
+    pub(crate) found: &'a StoredBefore,
+    /// The members that it touches, with their rows after it.
+    pub(crate) touched: Vec<TouchedMember<'a>>,
     /// The rows of the profiles that it is the first to show.
     pub(crate) profiles: Vec<ProfileRow>,
     /// The facts that it moves.
@@ -190,24 +158,25 @@ fn rows_of_batch(
 ) -> Result<BatchRows, AllocError>
     ensures { (commands : List Accepted) (c : Accepted) → c.content ≡ Describes dimension.now.dim records.now → AreTypes commands dimension.now.dim dimension.now.types.now
         → RecordsHaveDays commands → RecordsHaveDays (commands ++ c ∷ []) → command_at (commands ++ c ∷ []) (suc (length commands)) ≡ Some command
-        → IsPlanned dimension.now records.now commands (commands ++ c ∷ []) after.now planned → IfOk result (AreBatchRows commands c) }
+        → IsPlanned dimension.now records.now commands (commands ++ c ∷ []) after.now planned.entry → IfOk result (AreBatchRows commands c) }
 {
     let dim = dimension.dim;
     let members = new_member_rows(alloc, dim, planned.found.drawn.members, after)?;
     let changes = new_change_rows(alloc, dim, command.number, after, records)?;
-    let rows = row_edits(alloc, dimension, after, &planned.found.rows)?;
-    let rows = of_dimension(alloc, dim, rows);
+    let edits = row_edits(alloc, planned.touched, &planned.found.rows)?;
     let facts = fact_rekeys(alloc, planned.facts)?;
-    Ok(BatchRows {
+    let mut rows = BatchRows {
         command,
         members,
         changes,
         profiles: planned.profiles,
         facts,
-        products: rows.products,
-        stores: rows.stores,
-        customers: rows.customers,
-    })
+        products: Vec::new(alloc),
+        stores: Vec::new(alloc),
+        customers: Vec::new(alloc),
+    };
+    rows.set_rows(dim, edits);
+    Ok(rows)
 }
 
 /// What a batch of dimension records writes, from reads of the members that it touches alone: its own row and its edits of
@@ -246,9 +215,11 @@ pub fn plan_batch<S: Alter>(
         types: &types,
         profiles: &learned.known,
     };
-    let facts = facts_to_move(tables, alloc, format, &dimension, &found.members, after)?;
+    let members = touched_rows(alloc, &dimension, &found.members, after)?;
+    let facts = facts_to_move(tables, alloc, format, &dimension, &members)?;
     let planned = BatchPlan {
-        found,
+        found: &found,
+        touched: members,
         profiles,
         facts,
     };

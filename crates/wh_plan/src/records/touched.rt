@@ -1,6 +1,6 @@
 //! The members that a batch touches, as they are stored and as they are after it.
 
-ghost use Rattle.std.specs.Prelude.{◌≡◌, ◌≤◌, ◌++◌, ◌∷◌, [], ℕ, List, map, length, zip, unwrap_or, IfOk};
+ghost use Rattle.std.specs.Prelude.{◌≡◌, ◌≤◌, ◌++◌, ◌∷◌, [], ℕ, List, map, flat_map, length, zip, unwrap_or, IfOk};
 ghost use Rattle.std.specs.BTreeMap.{get_by};
 ghost use Rattle.std.specs.Cmp.Lexicographic.{slice_cmp};
 ghost use Rattle.std.specs.Ordering.{nat_cmp};
@@ -8,6 +8,8 @@ ghost use Rattle.std.specs.Option.{option_copied};
 ghost use Rattle.wh_policy.specs.declared.attribute.Dim.{Dim};
 ghost use Rattle.wh_history.specs.Accepted.{Accepted, Describes, anchors, members, member_of};
 ghost use Rattle.wh_history.specs.Keys.{greatest_number};
+ghost use Rattle.wh_history.specs.MovingDays.{moves_since};
+ghost use Rattle.wh_history.specs.Shapes.{rendered_in, shape_of};
 ghost use Rattle.wh_history.specs.Touched.{touched_by};
 ghost use Rattle.wh_plan.specs.MovedFacts.{pair_of};
 ghost use Rattle.wh_plan.specs.NewRows.{named, naturals_told};
@@ -16,8 +18,11 @@ use crate::by_natural::by_natural;
 use crate::numbers::NumbersDrawn;
 use std::alloc::{AllocError, Global};
 use std::collections::BTreeMap;
-use wh_day::{ParseError, Value};
-use wh_history::{Member, MemberSource, TouchedMembers, touch_all};
+use wh_day::{Day, ParseError, Value};
+use wh_history::{
+    DimRow, DimensionShape, Member, MemberSource, RenderedRows, TouchedMembers, moves_since,
+    touch_all,
+};
 use wh_policy::DimensionRecord;
 
 /// Members that were read from the tables, to be found by their natural keys.
@@ -69,26 +74,55 @@ pub(crate) fn touched_members(
     }
 }
 
-/// A member that a batch touches, as it is stored and as it is after the batch.
+/// A member that a batch touches: as it is stored, and with its rows as it is after the batch.
 #[derive(Drop)]
 pub(crate) struct TouchedMember<'a> {
     pub(crate) stored: &'a Member,
-    pub(crate) after: &'a Member,
+    pub(crate) after: RenderedRows<'a>,
 }
 
-/// Each member as it is stored beside the same as it is after the batch.
-pub(crate) fn touched_pairs<'a>(
+impl TouchedMember<'_> {
+    /// The first day of which the batch can move its facts.
+    pub(crate) fn moves_since(&self) -> Day
+        ensures { result ≡ moves_since self.now.stored.now.changes self.now.after.member.now.changes }
+    {
+        moves_since(
+            self.stored.changes.as_slice(),
+            self.after.member.changes.as_slice(),
+        )
+    }
+}
+
+/// Each member as it is stored beside the same as it is after the batch, with the rows that it has then.
+pub(crate) fn touched_rows<'a>(
     alloc: Global,
+    dimension: &DimensionShape,
     stored: &'a [Member],
     after: &'a [Member],
 ) -> Result<Vec<TouchedMember<'a>>, AllocError>
-    ensures { IfOk result (λ pairs. map pair_of pairs.items ≡ zip stored.now after.now) }
+    ensures { IfOk result (λ touched. map pair_of touched.items ≡ zip stored.now (map (rendered_in (shape_of dimension.now)) after.now)) }
 {
-    let mut pairs = Vec::new(alloc);
+    let mut touched = Vec::new(alloc);
     for (place, after) in after.iter().enumerate() {
         if let Some(stored) = stored.get(place) {
-            pairs.push(TouchedMember { stored, after })?;
+            let after = dimension.rendered(alloc, after)?;
+            touched.push(TouchedMember { stored, after })?;
         }
     }
-    Ok(pairs)
+    Ok(touched)
+}
+
+/// The rows of touched members after the batch, one member after the other.
+pub(crate) fn rows_after(
+    alloc: Global,
+    touched: Vec<TouchedMember>,
+) -> Result<Vec<DimRow>, AllocError>
+    ensures { IfOk result (λ rows. rows.items ≡ flat_map (λ t. t.after.rows.items) touched.entry.items) }
+{
+    let mut found = Vec::new(alloc);
+    for member in touched {
+        let mut after = member.after;
+        found.append(&mut after.rows)?;
+    }
+    Ok(found)
 }

@@ -18,7 +18,7 @@ loop-left-preserved c =
       within = omega arith;
       found = λ durable.
           c.in_ok-add.ensures durable
-          ∙ ap (cond (nat_lt 0 first.stored.now.durable && (first.after.now.durable == durable)) (Some (moving_of shape (pair_of first))))
+          ∙ ap (cond (nat_lt 0 first.stored.now.durable && (first.after.member.now.durable == durable)) (Some (moving_of shape (pair_of first))))
           (c.loop-left.invariant.found durable ∙ ap (λ n. option_map (moving_of shape) (owner_in (map pair_of (drop n touched)) durable)) next)
           ∙ sym (owner_more shape touched i first durable within c.index-touched-left.is);
     }
