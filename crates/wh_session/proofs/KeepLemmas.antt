@@ -3,37 +3,21 @@ use Rattle.std.proofs.Common.{◌≡◌, ◌∙◌, ◌⊎◌, inl, inr, refl, s
 use Rattle.std.specs.Prelude.{All, IsUtf8}
 use Rattle.wh_program.specs.Inputs.{Files, Refusals}
 use Rattle.wh_program.specs.Run.{GoesOut, Prints}
-use Rattle.wh_program.specs.Tasks.{IsToldBefore, Runs, RunsShut, SparesOthers, Stores, WhenShut, warehouse_of}
+use Rattle.wh_program.specs.Tasks.{IsToldBefore, Runs, RunsShut, SparesOthers, Stores, WhenShut}
 use Rattle.wh_program.specs.Warehouse.{IsNoFileOr, PrintsShut, Told, printed}
 use Rattle.wh_words.specs.CommandLine.{is_operand}
-use Rattle.wh_words.specs.Task.{Task, Trial, Init, Load, Migrate, Upgrade, Deliver, Plan, Explain, ExplainInit, Records, Query, Report, Reports, Queries, Dump, Views, Check, Status, Session as SessionAsked, asked_by}
+use Rattle.wh_words.specs.Asked.{asked_by}
+use Rattle.wh_words.specs.Task.{Task, warehouse_of}
 use Rattle.wh_words.specs.Line.{Meaning, Passed, NoCommand, Words, meaning_of}
 use Rattle.wh_session.specs.Line.{with_file}
 use Rattle.wh_session.specs.Session.{AllGo, Fails, Goes, IsAnswered, KeepsTo, LosesInput, RunsWords, Session}
+use Rattle.wh_words.proofs.Words.{IsTrial}
 use Rattle.wh_session.proofs.LineFiles.{line_keeps}
 
--- a command about no warehouse leaves the host
-none_same : (holds : Files) (refuses : Refusals) (before after : Stores) (same : Type 0) (prints : Told → Type 0) (goes_out : Option ℕ → Told → Type 0) (task : Task)
-    → warehouse_of task ≡ None → Runs holds refuses before after same prints goes_out task → same
-none_same holds refuses before after same prints goes_out (Trial dim path policy) none runs = runs.0
-none_same holds refuses before after same prints goes_out (Init file policy) none runs = cc
-none_same holds refuses before after same prints goes_out (Load file kind id path) none runs = cc
-none_same holds refuses before after same prints goes_out (Migrate file id policy) none runs = cc
-none_same holds refuses before after same prints goes_out (Upgrade file id) none runs = cc
-none_same holds refuses before after same prints goes_out (Deliver file manifest) none runs = cc
-none_same holds refuses before after same prints goes_out (Plan file kind id path) none runs = cc
-none_same holds refuses before after same prints goes_out (Explain file kind path) none runs = cc
-none_same holds refuses before after same prints goes_out (ExplainInit file policy) none runs = cc
-none_same holds refuses before after same prints goes_out (Records file dim from) none runs = cc
-none_same holds refuses before after same prints goes_out (Query file words) none runs = cc
-none_same holds refuses before after same prints goes_out (Report file words) none runs = cc
-none_same holds refuses before after same prints goes_out (Reports file list) none runs = cc
-none_same holds refuses before after same prints goes_out (Queries file list) none runs = cc
-none_same holds refuses before after same prints goes_out (Dump file table) none runs = cc
-none_same holds refuses before after same prints goes_out (Views file) none runs = cc
-none_same holds refuses before after same prints goes_out (Check file) none runs = cc
-none_same holds refuses before after same prints goes_out (Status file) none runs = cc
-none_same holds refuses before after same prints goes_out (SessionAsked file) none runs = cc
+-- a trial leaves the host
+trial_same : (holds : Files) (refuses : Refusals) (before after : Stores) (same : Type 0) (prints : Told → Type 0) (goes_out : Option ℕ → Told → Type 0) (task : Task)
+    → IsTrial task → Runs holds refuses before after same prints goes_out task → same
+trial_same holds refuses before after same prints goes_out task (dim, path, policy, is) runs = (subst (Runs holds refuses before after same prints goes_out) is runs).0
 
 module _ {H : Type 0} (holds : H → Files) (refuses : H → Refusals) (stores : H → Stores) (shut : H → List ℕ → Type 0) (file : List ℕ) where
   pub keeps_same : (before after : H) → after ≡ before → KeepsTo stores shut file before after
@@ -52,19 +36,16 @@ module _ {H : Type 0} (holds : H → Files) (refuses : H → Refusals) (stores :
     closed_at task is closed =
         subst (λ (name : Option (List ℕ)). WhenShut (shut before) name (λ f. PrintsShut (after ≡ before) (IsNoFileOr f (IsToldBefore (holds before) task)) (λ told. Prints old new code (printed told)))) is closed
 
-    task_keeps : (words : List (List ℕ)) (task : Task) → (warehouse_of task ≡ Some file) ⊎ (warehouse_of task ≡ None) → asked_by words ≡ Some task → RunsWords holds refuses stores shut words before after old new code
+    task_keeps : (words : List (List ℕ)) (task : Task) → (warehouse_of task ≡ Some file) ⊎ IsTrial task → asked_by words ≡ Some task → RunsWords holds refuses stores shut words before after old new code
         → KeepsTo stores shut file before after
     task_keeps words task (inl is) asked runs = record {
       others = subst (SparesOthers (stores before) (stores after)) is (runs.others task asked);
       closed = λ closed. (closed_at task is (runs.closed task asked) closed).0;
     }
-    task_keeps words task (inr none) asked runs = record {
-      others = λ other standing apart. (subst (SparesOthers (stores before) (stores after)) none (runs.others task asked)) other standing;
-      closed = λ closed. none_same (holds before) (refuses before) (stores before) (stores after) (after ≡ before) (λ told. Prints old new code (printed told)) (λ cut told. GoesOut cut old new code (printed told)) task none
-          (runs.reads task asked).0;
-    }
+    task_keeps words task (inr trial) asked runs =
+        keeps_same before after (trial_same (holds before) (refuses before) (stores before) (stores after) (after ≡ before) (λ told. Prints old new code (printed told)) (λ cut told. GoesOut cut old new code (printed told)) task trial (runs.reads task asked).0)
 
-    words_keep : (words : List (List ℕ)) → ((task : Task) → asked_by words ≡ Some task → (warehouse_of task ≡ Some file) ⊎ (warehouse_of task ≡ None)) → RunsWords holds refuses stores shut words before after old new code
+    words_keep : (words : List (List ℕ)) → ((task : Task) → asked_by words ≡ Some task → (warehouse_of task ≡ Some file) ⊎ IsTrial task) → RunsWords holds refuses stores shut words before after old new code
         → KeepsTo stores shut file before after
     words_keep words about runs = by (asked_by words) refl
       where

@@ -1,7 +1,6 @@
 pub mod LineLemmas
 pub mod OutputLemmas
 pub mod SessionLemmas
-pub mod FirstOperand
 pub mod LineFiles
 pub mod KeepLemmas
 pub mod SendingLemmas

@@ -22,12 +22,13 @@ use Rattle.wh_engine.specs.declared.fault.Fault.{Fault}
 use Rattle.wh_engine.specs.declared.fault.Fault.TheVariants as fault
 use Rattle.wh_store.specs.declared.fault.OpenFault.{OpenFault}
 use Rattle.wh_store.specs.declared.fault.OpenFault.TheVariants as opening
-use Rattle.wh_words.specs.CommandLine.{is_operand}
-use Rattle.wh_words.specs.CommandLine as line
-use Rattle.wh_words.specs.Task.{Task, asked_by, no_line}
+use Rattle.wh_day.specs.Reading.{◌>>=◌}
+use Rattle.wh_words.specs.CommandLine.{CommandLine, Bare, is_operand}
+use Rattle.wh_words.specs.Asked.{asked_by, no_line}
+use Rattle.wh_words.specs.Task.{Task, command_of}
 use Rattle.wh_words.specs.Task as task
 use Rattle.wh_words.specs.WrongWord.{no_kind_line}
-use Rattle.wh_words.proofs.CommandFaults.{read}
+use Rattle.wh_words.proofs.PlainWords.{read}
 use Rattle.wh_program.specs.Answer.{Printed, failed, memory_line, no_file_line, wrong_words}
 use Rattle.wh_program.specs.Delivery.{LeavesDelivered}
 use Rattle.wh_program.specs.Inputs.{Files, Refusals, as_input}
@@ -35,7 +36,7 @@ use Rattle.wh_program.specs.Reply.{opening_answer, sent_answer}
 use Rattle.wh_program.specs.Run.{Prints, PrintsWhole}
 use Rattle.wh_program.specs.Standing.{Holds, Standing, Rests}
 use Rattle.wh_program.specs.Tasks.{Stores}
-use Rattle.wh_program.specs.Warehouse.{AnswersUpgrade, AnswersWith, IsCommandOf, IsRefused, IsReplied, LeavesReplied, Opens, Sends, Told, printed}
+use Rattle.wh_program.specs.Warehouse.{AnswersUpgrade, AnswersWith, IsCommandOf, IsRefused, LeavesReplied, Sends, SendsTo, Told, printed}
 use Rattle.wh_words.specs.Line.{Meaning, Words, meaning_of}
 use Rattle.wh_session.specs.Line.{with_file}
 use Rattle.wh_session.specs.Laws.{AllSend}
@@ -60,18 +61,23 @@ kind_plain Sales = refl
 kind_plain Voids = refl
 
 abbrev sending_task : (file : List ℕ) → CommandKind → (id path : List ℕ) → Task
-sending_task file (Batch kind) id path = task.Load file kind id path
-sending_task file Migration id path = task.Migrate file id path
-sending_task file Upgrade id path = task.Upgrade file id
+sending_task file (Batch kind) id path = task.Over file (task.Load kind id path)
+sending_task file Migration id path = task.Over file (task.Migrate id path)
+sending_task file Upgrade id path = task.Over file (task.Upgrade id)
+
+abbrev sent_line : (name : List ℕ) → (operands : List (List ℕ)) → CommandLine
+sent_line name operands = record { name = name; operands = operands; extra = Bare }
 
 -- they are read so
 sending_asks : (file : List ℕ) (kind : CommandKind) (id path : List ℕ) → is_operand file ≡ true → is_operand id ≡ true → is_operand path ≡ true
     → asked_by (with_file file (sending_words kind id path)) ≡ Some (sending_task file kind id path)
+unfolding command_of
 sending_asks file (Batch kind) id path f i p =
-    read (codes "load" ∷ file ∷ kind_word kind ∷ id ∷ path ∷ []) (line.Load file (kind_word kind) id path) (record { words_are = refl; operands = both f (both (kind_plain kind) (both i p)) })
-    ∙ ap (λ (k : Option Kind). no_line (ok_or (option_map (λ (found : Kind). task.Load file found id path) k) (no_kind_line (kind_word kind)))) (kind_known kind)
-sending_asks file Migration id path f i p = read (codes "migrate" ∷ file ∷ id ∷ path ∷ []) (line.Migrate file id path) (record { words_are = refl; operands = both f (both i p) })
-sending_asks file Upgrade id path f i p = read (codes "upgrade" ∷ file ∷ id ∷ []) (line.Upgrade file id) (record { words_are = refl; operands = both f i })
+    read (codes "load" ∷ file ∷ kind_word kind ∷ id ∷ path ∷ []) (sent_line (codes "load") (file ∷ kind_word kind ∷ id ∷ path ∷ []))
+    (record { words_are = refl; operands = both (both f (both (kind_plain kind) (both i (both p refl)))) refl })
+    ∙ ap (λ (k : Option Kind). no_line (ok_or (option_map (λ (found : Kind). task.Load found id path) k) (no_kind_line (kind_word kind)) >>= λ work. Ok (task.Over file work))) (kind_known kind)
+sending_asks file Migration id path f i p = read (codes "migrate" ∷ file ∷ id ∷ path ∷ []) (sent_line (codes "migrate") (file ∷ id ∷ path ∷ [])) (record { words_are = refl; operands = both (both f (both i (both p refl))) refl })
+sending_asks file Upgrade id path f i p = read (codes "upgrade" ∷ file ∷ id ∷ []) (sent_line (codes "upgrade") (file ∷ id ∷ [])) (record { words_are = refl; operands = both (both f (both i refl)) refl })
 
 -- ---- the answer
 
@@ -125,7 +131,7 @@ module _ (limits : Limits) (commands : List Accepted) (c : Command) (after : Sta
   reply_sent reply leaves (inr (kept, cut)) = absurd (no_failure cut.status)
 
   -- over an opened warehouse it is a reply, and no other answer is one
-  opened_sent : (told : Told) → Opens (IsReplied c) (Holds limits commands) told after → Prints old new code (printed told) → IsSent limits commands c after old new code
+  opened_sent : (told : Told) → SendsTo c (Holds limits commands) told after → Prints old new code (printed told) → IsSent limits commands c after old new code
   opened_sent told (inl r) prints = reply_sent r.reply r.leaves (subst (Prints old new code) r.tells prints)
   opened_sent told (inr u) prints = absurd (no_failure (told_failed old new code told (λ a. a ≡ opening_answer u.why) (λ a is. ap (λ (b : Printed). b.status) is ∙ unopened_status u.why) u.tells prints))
 
@@ -168,13 +174,13 @@ module _ {H : Type 0} (holds : H → Files) (refuses : H → Refusals) (stores :
     run_sent : (kind : CommandKind) (id path : List ℕ) → is_operand id ≡ true → is_operand path ≡ true → stores before file (Rests (Holds limits commands))
         → RunsWords holds refuses stores shut (with_file file (sending_words kind id path)) before after old new code → IsOneSent (record { kind = kind; id = id; path = path }) limits commands before after old new code
     run_sent (Batch kind) id path i p stood runs =
-        let ran = (runs.reads (task.Load file kind id path) (sending_asks file (Batch kind) id path plain i p)).0 (Holds limits commands) stood in
+        let ran = (runs.reads (task.Over file (task.Load kind id path)) (sending_asks file (Batch kind) id path plain i p)).0 (Holds limits commands) stood in
         with_input id path (Batch kind) ran.0 ran.1 ran.2
     run_sent Migration id path i p stood runs =
-        let ran = (runs.reads (task.Migrate file id path) (sending_asks file Migration id path plain i p)).0 (Holds limits commands) stood in
+        let ran = (runs.reads (task.Over file (task.Migrate id path)) (sending_asks file Migration id path plain i p)).0 (Holds limits commands) stood in
         with_input id path Migration ran.0 ran.1 ran.2
     run_sent Upgrade id path i p stood runs =
-        let ran = (runs.reads (task.Upgrade file id) (sending_asks file Upgrade id path plain i p)).0 (Holds limits commands) stood in
+        let ran = (runs.reads (task.Over file (task.Upgrade id)) (sending_asks file Upgrade id path plain i p)).0 (Holds limits commands) stood in
         without_input id path ran.0 ran.1 ran.2
 
     answered_sent : (e : ManifestEntry) → is_operand e.id ≡ true → is_operand e.path ≡ true → stores before file (Rests (Holds limits commands))

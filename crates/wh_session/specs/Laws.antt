@@ -8,12 +8,13 @@ use Rattle.wh_admission.specs.declared.command.Refusal.{Refusal}
 use Rattle.wh_admission.specs.declared.command.Reply.{Reply}
 use Rattle.wh_batch.specs.declared.manifest.ManifestEntry.{ManifestEntry}
 use Rattle.wh_words.specs.CommandLine.{is_operand}
-use Rattle.wh_words.specs.Task.{Task, asked_by}
+use Rattle.wh_words.specs.Asked.{asked_by}
+use Rattle.wh_words.specs.Task.{Task, warehouse_of}
 use Rattle.wh_program.specs.Delivery.{LeavesDelivered}
 use Rattle.wh_program.specs.Inputs.{Files, Refusals}
 use Rattle.wh_program.specs.Run.{Prints}
 use Rattle.wh_program.specs.Standing.{Holds, Standing, Rests}
-use Rattle.wh_program.specs.Tasks.{IsToldBefore, Stores, warehouse_of}
+use Rattle.wh_program.specs.Tasks.{IsToldBefore, Stores}
 use Rattle.wh_program.specs.Warehouse.{IsCommandOf, IsNoFileOr, PrintsShut, printed}
 use Rattle.wh_words.specs.Line.{Words, meaning_of}
 use Rattle.wh_session.specs.Line.{with_file}

@@ -2,12 +2,13 @@
 use Rattle.std.specs.Prelude.{◌≡◌, ◌≢◌, ◌⊎◌, ℕ, List, [], ◌∷◌, ◌++◌, All, IsUtf8, Option, Some, None, Result, Ok, codes, max}
 use Rattle.std.specs.Fmt.{decimal}
 use Rattle.std.specs.Io.KnownBytes.{Appends}
-use Rattle.wh_words.specs.Task.{Task, Session as SessionAsked, asked_by, faults_in}
+use Rattle.wh_words.specs.Asked.{asked_by, faults_in}
+use Rattle.wh_words.specs.Task.{Task, Over, Session as SessionAsked, warehouse_of}
 use Rattle.wh_words.specs.WrongWord.{line}
 use Rattle.wh_program.specs.Answer.{Printed, failed, no_file_line, wrong_words}
 use Rattle.wh_program.specs.Inputs.{Files, Refusals}
 use Rattle.wh_program.specs.Run.{Declines, GoesOut, Prints, out_of_memory}
-use Rattle.wh_program.specs.Tasks.{Runs, RunsShut, SparesOthers, Stores, warehouse_of}
+use Rattle.wh_program.specs.Tasks.{Runs, RunsShut, SparesOthers, Stores}
 use Rattle.wh_program.specs.Warehouse.{printed}
 use Rattle.wh_words.specs.Line.{Meaning, Passed, NoCommand, Words, meaning_of}
 use Rattle.wh_session.specs.Line.{with_file}
@@ -102,5 +103,5 @@ module _ {H : Type 0} (holds : H → Files) (refuses : H → Refusals) (stores :
 
 -- the file of the session that is asked for, if one is
 abbrev pub session_of : Option (Result Task (List ℕ)) → Option (List ℕ)
-session_of (Some (Ok (SessionAsked file))) = Some file
+session_of (Some (Ok (Over file SessionAsked))) = Some file
 session_of _ = None

@@ -4,9 +4,10 @@ ghost use Rattle.std.specs.Prelude.{◌≡◌, ◌≢◌, ◌⊎◌, ℕ, List, 
 ghost use Rattle.std.specs.Io.KnownBytes.{Appends};
 ghost use Rattle.wh_program.specs.Answer.{failed, wrong_words};
 ghost use Rattle.wh_program.specs.Run.{Prints, out_of_memory};
-ghost use Rattle.wh_words.specs.CommandLine.{CommandLine, Says, is_operand};
+ghost use Rattle.wh_words.specs.CommandLine.{CommandLine, Says, is_operand, task_of};
 ghost use Rattle.wh_words.specs.Request.{asked_in};
-ghost use Rattle.wh_words.specs.Task.{Session as SessionAsked, asked_by, task_of};
+ghost use Rattle.wh_words.specs.Asked.{asked_by};
+ghost use Rattle.wh_words.specs.Task.{Over, Session as SessionAsked};
 ghost use Rattle.wh_words.specs.Line.{Passed, meaning_of};
 ghost use Rattle.wh_session.specs.Line.{with_file};
 ghost use Rattle.wh_session.specs.Session.{Goes, IsAnswered, IsBegun, KeepsTo, OnlyPrints, RunsWords, Session, Stops, no_input_line, session_of, status_line};
@@ -173,12 +174,12 @@ pub fn run<S: AsStr, H: Host, C: Console, W: Write>(
     out: &mut W,
 ) -> u8
     // A session of the lines that are still to come.
-    ensures session { (file : List ℕ) (lines : List (List ℕ)) → asked_by (map S.text words.now) ≡ Some (SessionAsked file) → C.hears console.old ≡ Some lines
+    ensures session { (file : List ℕ) (lines : List (List ℕ)) → asked_by (map S.text words.now) ≡ Some (Over file SessionAsked) → C.hears console.old ≡ Some lines
         → Session H.holds H.refuses H.stores H.shut file lines host.old host.new (W.contents out.old) (W.contents out.new) result }
     // Whatever lines come, what stands under other names stays, and all does where the host can't open FILE; where FILE begins with no hyphen.
-    ensures keeps { (file : List ℕ) → asked_by (map S.text words.now) ≡ Some (SessionAsked file) → is_operand file ≡ true → KeepsTo H.stores H.shut file host.old host.new }
+    ensures keeps { (file : List ℕ) → asked_by (map S.text words.now) ≡ Some (Over file SessionAsked) → is_operand file ≡ true → KeepsTo H.stores H.shut file host.old host.new }
     // All other words.
-    ensures runs { ((file : List ℕ) → asked_by (map S.text words.now) ≢ Some (SessionAsked file))
+    ensures runs { ((file : List ℕ) → asked_by (map S.text words.now) ≢ Some (Over file SessionAsked))
         → RunsWords H.holds H.refuses H.stores H.shut (map S.text words.now) host.old host.new (W.contents out.old) (W.contents out.new) result }
     // Where one of them is none of those that are listed, the line that says so is printed.
     ensures wrong_words { (line : CommandLine) (wrong : List ℕ) → Says (map S.text words.now) line → task_of line ≡ Err wrong → (host.new ≡ host.old)

@@ -5,9 +5,11 @@ use Rattle.clap.specs.Words.{Row, Shape, Text, new_rule}
 use Rattle.clap.specs.Walk.{Walk, finished, idle, option, positional, reading_by}
 use Rattle.clap.specs.declared.builder.value_parser.ValueParser.TheVariants.{Bool as Truth}
 use Rattle.clap.specs.declared.parser.matches.ValueSource.TheVariants.{CommandLine as ByCommandLine}
-use Rattle.wh_words.specs.CommandLine.{Query, query_app, words_of, condition_words, table_words, is_operand, has_operands, has_some, named}
+use Rattle.wh_words.specs.CommandLine.{Slice, condition_words, extra_words, given_to, is_operand, is_taken, has_some, table_words}
+use Rattle.wh_words.specs.Given.{given_by}
+use Rattle.wh_words.specs.Task.{Columns, asks_of, query_command}
 use Rattle.wh_words.proofs.CommandWords.{IsRead, read_by}
-use Rattle.wh_words.proofs.Program.{commands_on_literals, leaf, query_met}
+use Rattle.wh_words.proofs.Program.{IsFound, commands_on_literals, leaf}
 use Rattle.wh_words.proofs.Reading.{Goes, Steps, end_fault, goes_nowhere, goes_on, operands_go, start, takes}
 use Rattle.wh_history.proofs.Basics.{both_true}
 use Rattle.wh_rows.proofs.ColumnLemmas.{both}
@@ -15,7 +17,11 @@ use Rattle.wh_rows.proofs.ColumnLemmas.{both}
 -- ---- the walk over the words of a query
 
 abbrev query_leaf : Shape
-query_leaf = leaf query_app
+query_leaf = leaf query_command
+
+pub query_found : IsFound query_command
+unfolding commands_on_literals
+query_found = refl
 
 -- what was given for an argument, if anything was
 abbrev row : Text → List Text → Row
@@ -103,25 +109,25 @@ module _ (f d t : Text) where
   table_next bs [] w = record { walks = refl; passes = refl }
   table_next bs (v ∷ ws) w = record { walks = refl; passes = refl }
 
-  -- nothing is wrong at the end, and the command is this
+  -- nothing is wrong at the end, and the query is this
   pub record Ends (end : Walk) (columns conditions : List Text) (as_table : Bool) : Type 0 where
     settles : end_fault query_leaf end ≡ []
-    names : named (Some (query_leaf.name, finished query_leaf.rules end.held)) ≡ Some (Query f d t columns conditions as_table)
+    asks : asks_of query_command (given_by (finished query_leaf.rules end.held)) ≡ asks_of query_command (given_to query_command (f ∷ d ∷ t ∷ []) (Slice columns conditions as_table))
 
   by_ends : (bs : List Text) (b : Text) → Ends (by_state bs b) (bs ++ b ∷ []) [] false
   unfolding commands_on_literals
-  by_ends [] b = record { settles = refl; names = refl }
-  by_ends (c ∷ bs) b = record { settles = refl; names = refl }
+  by_ends [] b = record { settles = refl; asks = refl }
+  by_ends (c ∷ bs) b = record { settles = refl; asks = refl }
 
   where_ends : (bs ws : List Text) (w : Text) → Ends (where_state bs ws w) bs (ws ++ w ∷ []) false
   unfolding commands_on_literals
-  where_ends bs [] w = record { settles = refl; names = refl }
-  where_ends bs (v ∷ ws) w = record { settles = refl; names = refl }
+  where_ends bs [] w = record { settles = refl; asks = refl }
+  where_ends bs (v ∷ ws) w = record { settles = refl; asks = refl }
 
   table_ends : (bs ws : List Text) → Ends (table_state bs ws) bs ws true
   unfolding commands_on_literals
-  table_ends bs [] = record { settles = refl; names = refl }
-  table_ends bs (v ∷ ws) = record { settles = refl; names = refl }
+  table_ends bs [] = record { settles = refl; asks = refl }
+  table_ends bs (v ∷ ws) = record { settles = refl; asks = refl }
 
   -- the walk over words ends so
   pub record Reads (from : Walk) (words columns conditions : List Text) (as_table : Bool) : Type 0 where
@@ -155,29 +161,28 @@ module _ (f d t : Text) where
       reads_on _ _ _ _ _ _ _ (one_column bs b x x-is.0)
       (subst (λ (found : List Text). Reads (by_state (bs ++ b ∷ []) x) (more ++ (condition_words conditions ++ table_words as_table)) found conditions as_table) (append_assoc bs (b ∷ []) (x ∷ more)) (columns_read (bs ++ b ∷ []) x more conditions as_table x-is.1 others))
 
-  -- the words of a query are read as its columns and conditions, the first column behind three operands
-  query_read : (b : Text) (more conditions : List Text) (as_table : Bool) → list_all is_operand (f ∷ d ∷ t ∷ b ∷ []) ≡ true → list_all is_operand more ≡ true → list_all is_operand conditions ≡ true
-      → IsRead (codes "query" ∷ f ∷ d ∷ t ∷ b ∷ (more ++ (condition_words conditions ++ table_words as_table))) (Query f d t (b ∷ more) conditions as_table)
-  unfolding commands_on_literals
-  query_read b more conditions as_table first are others =
-      let words = more ++ (condition_words conditions ++ table_words as_table) in
-      let reads = columns_read [] b more conditions as_table are others in
-      read_by (codes "query") query_leaf query_met (f ∷ d ∷ t ∷ b ∷ words) reads.end (Query f d t (b ∷ more) conditions as_table)
-      (operands_go query_leaf start reads.end (f ∷ d ∷ t ∷ b ∷ []) words first refl refl reads.goes) reads.ends.settles reads.ends.names
+-- the words of a query are read as its columns and conditions, the first column behind three operands
+query_read : (f d t b : Text) (more conditions : List Text) (as_table : Bool) → list_all is_operand (f ∷ d ∷ t ∷ b ∷ []) ≡ true → list_all is_operand more ≡ true → list_all is_operand conditions ≡ true
+    → IsRead (codes "query" ∷ f ∷ d ∷ t ∷ b ∷ (more ++ (condition_words conditions ++ table_words as_table))) (asks_of query_command (given_to query_command (f ∷ d ∷ t ∷ []) (Slice (b ∷ more) conditions as_table)))
+unfolding commands_on_literals
+query_read f d t b more conditions as_table first are others =
+    let words = more ++ (condition_words conditions ++ table_words as_table) in
+    let reads = columns_read f d t [] b more conditions as_table are others in
+    read_by query_command query_found (f ∷ d ∷ t ∷ b ∷ words) reads.end (given_to query_command (f ∷ d ∷ t ∷ []) (Slice (b ∷ more) conditions as_table))
+    (operands_go query_leaf start reads.end (f ∷ d ∷ t ∷ b ∷ []) words first refl refl reads.goes) reads.ends.settles reads.ends.asks
 
-pub query_is_read : (f d t : Text) (columns conditions : List Text) (as_table : Bool) → has_operands (Query f d t columns conditions as_table) ≡ true → IsRead (words_of (Query f d t columns conditions as_table)) (Query f d t columns conditions as_table)
-query_is_read f d t columns conditions as_table is =
-    let f-is = both_true (is_operand f) _ is in
-    let d-is = both_true (is_operand d) _ f-is.1 in
-    let t-is = both_true (is_operand t) _ d-is.1 in
-    let some = both_true (has_some columns) _ t-is.1 in
+pub query_is_read : (f d t : Text) (columns conditions : List Text) (as_table : Bool) → list_all is_operand (f ∷ d ∷ t ∷ []) ≡ true → is_taken Columns (Slice columns conditions as_table) ≡ true
+    → IsRead (codes "query" ∷ f ∷ d ∷ t ∷ extra_words (Slice columns conditions as_table)) (asks_of query_command (given_to query_command (f ∷ d ∷ t ∷ []) (Slice columns conditions as_table)))
+query_is_read f d t columns conditions as_table first is =
+    let some = both_true (has_some columns) _ is in
     let are = both_true (list_all is_operand columns) _ some.1 in
     by columns some.0 are.0 are.1
   where
-    by : (columns : List Text) → has_some columns ≡ true → list_all is_operand columns ≡ true → list_all is_operand conditions ≡ true → IsRead (words_of (Query f d t columns conditions as_table)) (Query f d t columns conditions as_table)
+    by : (columns : List Text) → has_some columns ≡ true → list_all is_operand columns ≡ true → list_all is_operand conditions ≡ true
+        → IsRead (codes "query" ∷ f ∷ d ∷ t ∷ extra_words (Slice columns conditions as_table)) (asks_of query_command (given_to query_command (f ∷ d ∷ t ∷ []) (Slice columns conditions as_table)))
     by [] some are others = absurd (cc some)
     by (b ∷ more) some are others =
-        let f-is = both_true (is_operand f) _ is in
+        let f-is = both_true (is_operand f) _ first in
         let d-is = both_true (is_operand d) _ f-is.1 in
         let t-is = both_true (is_operand t) _ d-is.1 in
         let b-is = both_true (is_operand b) _ are in

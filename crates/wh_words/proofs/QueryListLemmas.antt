@@ -17,7 +17,8 @@ use Rattle.wh_rows.proofs.ColumnLemmas.{both}
 use Rattle.wh_words.specs.Line.{Meaning, Passed, NoCommand, Words, IsRead, first_line, lines_of, meaning_of, onto}
 use Rattle.wh_words.specs.QueryList.{IsAdded, Said, Nothing, NoQuery, Asks, line_says, meaning_says, queries_from, says, says_of, task_says}
 use Rattle.wh_words.specs.Request.{IsReadAs, asked_in}
-use Rattle.wh_words.specs.Task.{QueryWords, Task, asked_by}
+use Rattle.wh_words.specs.Asked.{asked_by}
+use Rattle.wh_words.specs.Task.{QueryWords, Task}
 use Rattle.wh_words.specs.declared.command.Request.{Request}
 use Rattle.wh_words.specs.declared.command.Request.TheVariants as request
 use Rattle.wh_words.specs.declared.line.Line.{Line}

@@ -1,14 +1,14 @@
 -- What clap makes of any words.
-use Rattle.std.proofs.Common.{◌≡◌, ◌≢◌, inl, inr, sym, subst, ℕ, List, [], ◌∷◌, Option, Some, None, Ok, Err, true≢false}
+use Rattle.std.proofs.Common.{◌≡◌, ◌≢◌, inl, inr, sym, subst, ℕ, List, [], ◌∷◌, Option, Some, Ok, Err, true≢false}
 use Rattle.std.specs.Prelude.{Result, IfOk, IsErr}
-use Rattle.std.specs.Option.{option_and_then}
 use Rattle.clap.specs.Words.{HasKind, IsAmong, Kinds, kind_of, subcommand_of}
 use Rattle.clap.specs.declared.error.Error.{Error}
 use Rattle.clap.specs.declared.error.kind.ErrorKind.{ErrorKind}
 use Rattle.clap.specs.declared.error.kind.ErrorKind.TheVariants.{DisplayHelp, DisplayVersion, OutOfMemory}
-use Rattle.wh_words.specs.CommandLine.{CommandLine, program_app, named}
+use Rattle.wh_words.specs.Asked.{asked_by, asked_of, faults_in, no_line, when_none, MayAskForHelp, MayBeWrong}
+use Rattle.wh_words.specs.CommandLine.{program_app}
 use Rattle.wh_words.specs.Request.{asked_in, IsDeclined, IsReadAs}
-use Rattle.wh_words.specs.Task.{Task, task_of, no_line, when_none, faults_in, asked_by, MayAskForHelp, MayBeWrong}
+use Rattle.wh_words.specs.Task.{Task}
 use Rattle.wh_words.specs.declared.command.Request.{Request}
 use Rattle.wh_words.specs.declared.command.Request.TheVariants as request
 
@@ -48,21 +48,13 @@ read_as (Err line) (request.Task t) is = absurd (cc is)
 read_as (Err line) (request.Help text) is = absurd (cc is)
 read_as (Err line) (request.Usage text) is = ((λ e. absurd (cc e)), (λ e. absurd (cc e)))
 
--- where clap takes the words and finds a command
-pub read_found : (words : List (List ℕ)) (line : CommandLine) (r : Request) → faults_in words ≡ [] → named (subcommand_of program_app words) ≡ Some line → asked_in r ≡ Some (task_of line)
+-- where clap takes the words
+pub read_found : (words : List (List ℕ)) (found : Result Task (List ℕ)) (r : Request) → faults_in words ≡ [] → asked_of (subcommand_of program_app words) ≡ found → asked_in r ≡ Some found
     → IsReadAs (asked_by words) (faults_in words) r
 unfolding asked_by
-read_found words line r none met asks =
-    let same : asked_by words ≡ no_line (task_of line) = λ i. when_none (none i) (option_and_then (λ l. no_line (task_of l)) (met i)) in
-    subst (λ faults. IsReadAs (asked_by words) faults r) (sym none) (subst (λ task. IsReadAs task [] r) (sym same) (read_as (task_of line) r asks))
-
--- or none
-pub read_nothing : (words : List (List ℕ)) (line : List ℕ) (r : Request) → faults_in words ≡ [] → named (subcommand_of program_app words) ≡ None → asked_in r ≡ Some (Err line)
-    → IsReadAs (asked_by words) (faults_in words) r
-unfolding asked_by
-read_nothing words line r none met asks =
-    let same : asked_by words ≡ None = λ i. when_none (none i) (option_and_then (λ l. no_line (task_of l)) (met i)) in
-    subst (λ faults. IsReadAs (asked_by words) faults r) (sym none) (subst (λ task. IsReadAs task [] r) (sym same) (read_as (Err line) r asks))
+read_found words found r none met asks =
+    let same : asked_by words ≡ no_line found = λ i. when_none (none i) (no_line (met i)) in
+    subst (λ faults. IsReadAs (asked_by words) faults r) (sym none) (subst (λ task. IsReadAs task [] r) (sym same) (read_as found r asks))
 
 -- ---- none
 
@@ -77,4 +69,4 @@ declined_by (k ∷ ks) found e r kind fails is = is
 pub read_declined : {E : Type 0} (words : List (List ℕ)) (e : Error) (r : Result Request E) → HasKind (faults_in words) e → (kind_of e ≡ OutOfMemory → IsErr r) → IfOk r (IsDeclined (faults_in words))
     → IfOk r (IsReadAs (asked_by words) (faults_in words))
 unfolding asked_by
-read_declined words e r kind fails is = declined_by (faults_in words) (option_and_then (λ l. no_line (task_of l)) (named (subcommand_of program_app words))) e r kind fails is
+read_declined words e r kind fails is = declined_by (faults_in words) (no_line (asked_of (subcommand_of program_app words))) e r kind fails is

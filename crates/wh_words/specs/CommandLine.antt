@@ -1,11 +1,17 @@
 -- The words that the program takes.
+use Rattle.std.specs.Prelude.{◌≡◌, ◌++◌, ℕ, List, [], ◌∷◌, codes, Bool, true, false, not, ◌==◌, ◌&&◌, Some, Result, Err, map}
 use Rattle.std.specs.List.{list_all}
-use Rattle.std.specs.Prelude.{◌≡◌, ◌++◌, unwrap_or, ℕ, List, [], ◌∷◌, codes, Bool, true, false, not, ◌==◌, ◌&&◌, Option, Some, None, map, option_map, option_and_then, if◌then◌else◌, bytes_eq}
+use Rattle.std.specs.Option.{option_map_or}
+use Rattle.clap.specs.declared.builder.action.ArgAction.TheVariants.{Append, SetTrue}
+use Rattle.clap.specs.Words.{App, Rule, Text, new_app, new_rule, with_rule, with_subcommand}
+use Rattle.wh_words.specs.Given.{Given}
+use Rattle.wh_words.specs.Task.{Task, Beside, Nothing, Policy, Optional, Columns, Command, command_of, every_command, asks_of}
+use Rattle.wh_words.specs.WrongWord.{no_command_line}
 use Rattle.wh_words.specs.declared.app.More.{More}
 use Rattle.wh_words.specs.declared.app.More.TheVariants as more
 use Rattle.wh_words.specs.declared.app.Subcommand.{Subcommand}
-use Rattle.clap.specs.declared.builder.action.ArgAction.TheVariants.{Append, SetTrue}
-use Rattle.clap.specs.Words.{App, Row, Rule, Text, all_of, first_of, new_app, new_rule, with_rule, with_subcommand}
+
+-- ---- as clap builds them
 
 -- an operand that a command can't do without
 abbrev pub operand : List ℕ → Rule
@@ -41,73 +47,15 @@ abbrev pub command_app : List ℕ → List (List ℕ) → App
 command_app name operands = with_operands (new_app name) operands
 
 -- an app with what it takes beside operands that it can't do without
-abbrev pub with_more : More → App → App
-with_more more.Nothing app = app
-with_more more.Policy app = with_rule app (option_of (codes "POLICY") (codes "policy"))
-with_more (more.Optional name help) app = with_rule app (optional_operand name.now)
-with_more more.Columns app = with_rule (with_rule (with_rule app (repeated_operand (codes "BY"))) (repeated_option (codes "WHERE") (codes "where"))) (flag_of (codes "TABLE") (codes "table"))
+abbrev pub with_beside : Beside → App → App
+with_beside Nothing app = app
+with_beside Policy app = with_rule app (option_of (codes "POLICY") (codes "policy"))
+with_beside (Optional name) app = with_rule app (optional_operand name)
+with_beside Columns app = with_rule (with_rule (with_rule app (repeated_operand (codes "BY"))) (repeated_option (codes "WHERE") (codes "where"))) (flag_of (codes "TABLE") (codes "table"))
 
--- the operands that a row of the program's table names
-abbrev pub operands_app : Subcommand → App
-operands_app s = command_app s.name.now (map (λ o. o.0.now) s.operands.now)
-
--- the command of a row
-abbrev pub subcommand_app : Subcommand → App
-subcommand_app s = with_more s.more (operands_app s)
-
-unfoldable pub trial_app : App
-trial_app = with_rule (command_app (codes "trial") (codes "DIMENSION" ∷ codes "CSV" ∷ [])) (option_of (codes "POLICY") (codes "policy"))
-
-unfoldable pub explain_app : App
-explain_app = with_rule (command_app (codes "explain") (codes "FILE" ∷ codes "KIND" ∷ [])) (optional_operand (codes "INPUT"))
-
-unfoldable pub records_app : App
-records_app = with_rule (command_app (codes "records") (codes "FILE" ∷ codes "DIMENSION" ∷ [])) (optional_operand (codes "FROM"))
-
-unfoldable pub query_app : App
-query_app = with_rule (with_rule (with_rule (command_app (codes "query") (codes "FILE" ∷ codes "FROM" ∷ codes "TO" ∷ [])) (repeated_operand (codes "BY"))) (repeated_option (codes "WHERE") (codes "where"))) (flag_of (codes "TABLE") (codes "table"))
-
-abbrev pub init_app : App
-init_app = command_app (codes "init") (codes "FILE" ∷ codes "POLICY" ∷ [])
-
-abbrev pub load_app : App
-load_app = command_app (codes "load") (codes "FILE" ∷ codes "KIND" ∷ codes "ID" ∷ codes "CSV" ∷ [])
-
-abbrev pub migrate_app : App
-migrate_app = command_app (codes "migrate") (codes "FILE" ∷ codes "ID" ∷ codes "POLICY" ∷ [])
-
-abbrev pub upgrade_app : App
-upgrade_app = command_app (codes "upgrade") (codes "FILE" ∷ codes "ID" ∷ [])
-
-abbrev pub deliver_app : App
-deliver_app = command_app (codes "deliver") (codes "FILE" ∷ codes "MANIFEST" ∷ [])
-
-abbrev pub plan_app : App
-plan_app = command_app (codes "plan") (codes "FILE" ∷ codes "KIND" ∷ codes "ID" ∷ codes "INPUT" ∷ [])
-
-abbrev pub report_app : App
-report_app = command_app (codes "report") (codes "FILE" ∷ codes "ATTRIBUTE" ∷ codes "MODE" ∷ codes "FROM" ∷ codes "TO" ∷ [])
-
-abbrev pub reports_app : App
-reports_app = command_app (codes "reports") (codes "FILE" ∷ codes "LIST" ∷ [])
-
-abbrev pub queries_app : App
-queries_app = command_app (codes "queries") (codes "FILE" ∷ codes "LIST" ∷ [])
-
-abbrev pub dump_app : App
-dump_app = command_app (codes "dump") (codes "FILE" ∷ codes "TABLE" ∷ [])
-
-abbrev pub views_app : App
-views_app = command_app (codes "views") (codes "FILE" ∷ [])
-
-abbrev pub check_app : App
-check_app = command_app (codes "check") (codes "FILE" ∷ [])
-
-abbrev pub status_app : App
-status_app = command_app (codes "status") (codes "FILE" ∷ [])
-
-abbrev pub session_app : App
-session_app = command_app (codes "session") (codes "FILE" ∷ [])
+-- a command
+abbrev pub app_with : Command → App
+app_with c = with_beside c.beside (command_app c.name c.operands)
 
 -- the program before it has commands: it says its version, and wants a command
 unfoldable pub top_app : App
@@ -118,28 +66,34 @@ abbrev pub with_commands : App → List App → App
 with_commands app [] = app
 with_commands app (command ∷ rest) = with_commands (with_subcommand app command.top) rest
 
--- its commands
-abbrev pub every_command : List App
-every_command = trial_app ∷ explain_app ∷ records_app ∷ query_app ∷ init_app ∷ load_app ∷ migrate_app ∷ upgrade_app ∷ deliver_app ∷ report_app ∷ reports_app ∷ queries_app ∷ dump_app ∷ views_app ∷ status_app ∷ session_app ∷ plan_app ∷ check_app ∷ []
-
 -- the whole program
 unfoldable pub program_app : App
-program_app = with_commands top_app every_command
+program_app = with_commands top_app (map app_with every_command)
 
--- the words of a trial, under its own policy or the one in a file
-abbrev pub trial_words : List ℕ → List ℕ → Option (List ℕ) → List (List ℕ)
-trial_words dimension path None = codes "trial" ∷ dimension ∷ path ∷ []
-trial_words dimension path (Some policy) = codes "trial" ∷ dimension ∷ path ∷ codes "--policy" ∷ policy ∷ []
+-- ---- a row of the program's table
 
--- the words of an explanation, of a file or of what a kind takes
-abbrev pub explain_words : List ℕ → List ℕ → Option (List ℕ) → List (List ℕ)
-explain_words file kind None = codes "explain" ∷ file ∷ kind ∷ []
-explain_words file kind (Some path) = codes "explain" ∷ file ∷ kind ∷ path ∷ []
+abbrev pub beside_of : More → Beside
+beside_of more.Nothing = Nothing
+beside_of more.Policy = Policy
+beside_of (more.Optional name help) = Optional name.now
+beside_of more.Columns = Columns
 
--- the words of records, from the first on or from a later one
-abbrev pub records_words : List ℕ → List ℕ → Option (List ℕ) → List (List ℕ)
-records_words file dimension None = codes "records" ∷ file ∷ dimension ∷ []
-records_words file dimension (Some from) = codes "records" ∷ file ∷ dimension ∷ from ∷ []
+abbrev pub with_more : More → App → App
+with_more m app = with_beside (beside_of m) app
+
+-- the operands that it names
+abbrev pub operands_app : Subcommand → App
+operands_app s = command_app s.name.now (map (λ o. o.0.now) s.operands.now)
+
+abbrev pub subcommand_app : Subcommand → App
+subcommand_app s = with_more s.more (operands_app s)
+
+-- ---- the words of a command
+
+-- the word does not begin with a hyphen, so it is no option
+abbrev pub is_operand : List ℕ → Bool
+is_operand [] = true
+is_operand (b ∷ rest) = not (b == 45)
 
 -- the words of conditions
 abbrev pub condition_words : List (List ℕ) → List (List ℕ)
@@ -151,192 +105,78 @@ abbrev pub table_words : Bool → List (List ℕ)
 table_words true = codes "--table" ∷ []
 table_words false = []
 
--- the word does not begin with a hyphen, so it is no option
-abbrev pub is_operand : List ℕ → Bool
-is_operand [] = true
-is_operand (b ∷ rest) = not (b == 45)
-
-abbrev pub is_operand_or_none : Option (List ℕ) → Bool
-is_operand_or_none None = true
-is_operand_or_none (Some word) = is_operand word
-
--- a command of the program, with what its words name
-pub data CommandLine : Type 0 where
-  Trial : (dimension path : List ℕ) → (policy : Option (List ℕ)) → CommandLine
-  Init : (file policy : List ℕ) → CommandLine
-  Load : (file kind id path : List ℕ) → CommandLine
-  Migrate : (file id policy : List ℕ) → CommandLine
-  Upgrade : (file id : List ℕ) → CommandLine
-  Deliver : (file manifest : List ℕ) → CommandLine
-  Plan : (file kind id path : List ℕ) → CommandLine
-  Explain : (file kind : List ℕ) → (path : Option (List ℕ)) → CommandLine
-  Records : (file dimension : List ℕ) → (from : Option (List ℕ)) → CommandLine
-  Report : (file attribute mode from to : List ℕ) → CommandLine
-  Query : (file from to : List ℕ) → (columns conditions : List (List ℕ)) → (as_table : Bool) → CommandLine
-  Reports : (file list : List ℕ) → CommandLine
-  Queries : (file list : List ℕ) → CommandLine
-  Dump : (file table : List ℕ) → CommandLine
-  Views : (file : List ℕ) → CommandLine
-  Check : (file : List ℕ) → CommandLine
-  Status : (file : List ℕ) → CommandLine
-  Session : (file : List ℕ) → CommandLine
-
--- the words of a command
-abbrev pub words_of : CommandLine → List (List ℕ)
-words_of (Trial dimension path policy) = trial_words dimension path policy
-words_of (Init file policy) = codes "init" ∷ file ∷ policy ∷ []
-words_of (Load file kind id path) = codes "load" ∷ file ∷ kind ∷ id ∷ path ∷ []
-words_of (Migrate file id policy) = codes "migrate" ∷ file ∷ id ∷ policy ∷ []
-words_of (Upgrade file id) = codes "upgrade" ∷ file ∷ id ∷ []
-words_of (Deliver file manifest) = codes "deliver" ∷ file ∷ manifest ∷ []
-words_of (Plan file kind id path) = codes "plan" ∷ file ∷ kind ∷ id ∷ path ∷ []
-words_of (Explain file kind path) = explain_words file kind path
-words_of (Records file dimension from) = records_words file dimension from
-words_of (Report file attribute mode from to) = codes "report" ∷ file ∷ attribute ∷ mode ∷ from ∷ to ∷ []
-words_of (Query file from to columns conditions as_table) = codes "query" ∷ file ∷ from ∷ to ∷ (columns ++ (condition_words conditions ++ table_words as_table))
-words_of (Reports file list) = codes "reports" ∷ file ∷ list ∷ []
-words_of (Queries file list) = codes "queries" ∷ file ∷ list ∷ []
-words_of (Dump file table) = codes "dump" ∷ file ∷ table ∷ []
-words_of (Views file) = codes "views" ∷ file ∷ []
-words_of (Check file) = codes "check" ∷ file ∷ []
-words_of (Status file) = codes "status" ∷ file ∷ []
-words_of (Session file) = codes "session" ∷ file ∷ []
-
 abbrev pub has_some : List (List ℕ) → Bool
 has_some [] = false
 has_some (word ∷ words) = true
 
--- no operand is an option
+-- what is given beside the operands that a command can't do without: nothing, a policy by its option, one operand more, or the columns, the conditions and the form of a query
+pub data Extra : Type 0 where
+  Bare : Extra
+  Under : (policy : Text) → Extra
+  With : (word : Text) → Extra
+  Slice : (columns conditions : List Text) → (as_table : Bool) → Extra
+
+-- a command, with what its words give
+pub record CommandLine : Type 0 where
+  pub name : Text
+  pub operands : List Text
+  pub extra : Extra
+
+abbrev pub extra_words : Extra → List Text
+extra_words Bare = []
+extra_words (Under policy) = codes "--policy" ∷ policy ∷ []
+extra_words (With word) = word ∷ []
+extra_words (Slice columns conditions as_table) = columns ++ (condition_words conditions ++ table_words as_table)
+
+-- its words
+abbrev pub words_of : CommandLine → List Text
+words_of line = line.name ∷ (line.operands ++ extra_words line.extra)
+
+-- each operand that a command can't do without is given, and none of the words is an option
+abbrev pub are_given : (names words : List Text) → Bool
+are_given [] [] = true
+are_given (name ∷ names) (word ∷ words) = is_operand word && are_given names words
+are_given _ _ = false
+
+-- what is given beside them is what the command takes, and none of its words is an option
+abbrev pub is_taken : Beside → Extra → Bool
+is_taken Nothing Bare = true
+is_taken Policy Bare = true
+is_taken Policy (Under policy) = is_operand policy
+is_taken (Optional name) Bare = true
+is_taken (Optional name) (With word) = is_operand word
+is_taken Columns (Slice columns conditions as_table) = has_some columns && (list_all is_operand columns && list_all is_operand conditions)
+is_taken _ _ = false
+
+-- they are those of a command of this name
 abbrev pub has_operands : CommandLine → Bool
-has_operands (Trial dimension path policy) = is_operand dimension && (is_operand path && is_operand_or_none policy)
-has_operands (Init file policy) = is_operand file && is_operand policy
-has_operands (Load file kind id path) = is_operand file && (is_operand kind && (is_operand id && is_operand path))
-has_operands (Migrate file id policy) = is_operand file && (is_operand id && is_operand policy)
-has_operands (Upgrade file id) = is_operand file && is_operand id
-has_operands (Deliver file manifest) = is_operand file && is_operand manifest
-has_operands (Plan file kind id path) = is_operand file && (is_operand kind && (is_operand id && is_operand path))
-has_operands (Explain file kind path) = is_operand file && (is_operand kind && is_operand_or_none path)
-has_operands (Records file dimension from) = is_operand file && (is_operand dimension && is_operand_or_none from)
-has_operands (Report file attribute mode from to) = is_operand file && (is_operand attribute && (is_operand mode && (is_operand from && is_operand to)))
-has_operands (Query file from to columns conditions as_table) = is_operand file && (is_operand from && (is_operand to && (has_some columns && (list_all is_operand columns && list_all is_operand conditions))))
-has_operands (Reports file list) = is_operand file && is_operand list
-has_operands (Queries file list) = is_operand file && is_operand list
-has_operands (Dump file table) = is_operand file && is_operand table
-has_operands (Views file) = is_operand file
-has_operands (Check file) = is_operand file
-has_operands (Status file) = is_operand file
-has_operands (Session file) = is_operand file
+has_operands line = option_map_or (λ c. are_given c.operands line.operands && is_taken c.beside line.extra) (command_of line.name) false
 
 -- the words are those of a command, and none of its operands is an option
-pub record Says (words : List (List ℕ)) (line : CommandLine) : Type 0 where
+pub record Says (words : List Text) (line : CommandLine) : Type 0 where
   pub words_are : words ≡ words_of line
   pub operands : has_operands line ≡ true
 
--- what the rows of a subcommand name
-abbrev pub named_trial : List Row → Option CommandLine
-named_trial rows = option_and_then (λ d. option_map (λ p. Trial d p (first_of (codes "POLICY") rows)) (first_of (codes "CSV") rows)) (first_of (codes "DIMENSION") rows)
+-- ---- what they ask for
 
-abbrev pub named_explain : List Row → Option CommandLine
-named_explain rows = option_and_then (λ f. option_map (λ k. Explain f k (first_of (codes "INPUT") rows)) (first_of (codes "KIND") rows)) (first_of (codes "FILE") rows)
+abbrev pub operands_given : (names words : List Text) → Given
+operands_given (name ∷ names) (word ∷ words) = (name, word ∷ []) ∷ operands_given names words
+operands_given _ _ = []
 
-abbrev pub named_records : List Row → Option CommandLine
-named_records rows = option_and_then (λ f. option_map (λ d. Records f d (first_of (codes "FROM") rows)) (first_of (codes "DIMENSION") rows)) (first_of (codes "FILE") rows)
+abbrev pub flag_given : Bool → Given
+flag_given true = (codes "TABLE", codes "true" ∷ []) ∷ []
+flag_given false = []
 
-abbrev pub named_init : List Row → Option CommandLine
-named_init rows = option_and_then (λ f. option_map (λ p. Init f p) (first_of (codes "POLICY") rows)) (first_of (codes "FILE") rows)
+abbrev pub extra_given : Beside → Extra → Given
+extra_given Policy (Under policy) = (codes "POLICY", policy ∷ []) ∷ []
+extra_given (Optional name) (With word) = (name, word ∷ []) ∷ []
+extra_given Columns (Slice columns conditions as_table) = (codes "BY", columns) ∷ (codes "WHERE", conditions) ∷ flag_given as_table
+extra_given _ _ = []
 
--- a command for the warehouse in a file, with the file that it is read from
-pub record Sent : Type 0 where
-  pub file : List ℕ
-  pub kind : List ℕ
-  pub id : List ℕ
-  pub path : List ℕ
+-- the words, by the names of a command's operands and options
+abbrev pub given_to : Command → (operands : List Text) → Extra → Given
+given_to c operands extra = operands_given c.operands operands ++ extra_given c.beside extra
 
-abbrev pub named_input : List ℕ → List ℕ → List ℕ → List Row → Option Sent
-named_input file kind input rows = option_and_then (λ i. option_map (λ p. record { file = file; kind = kind; id = i; path = p }) (first_of input rows)) (first_of (codes "ID") rows)
-
-abbrev pub named_sent : List ℕ → List Row → Option Sent
-named_sent input rows = option_and_then (λ f. option_and_then (λ k. named_input f k input rows) (first_of (codes "KIND") rows)) (first_of (codes "FILE") rows)
-
-abbrev pub named_load : List Row → Option CommandLine
-named_load rows = option_map (λ s. Load s.file s.kind s.id s.path) (named_sent (codes "CSV") rows)
-
-abbrev pub named_plan : List Row → Option CommandLine
-named_plan rows = option_map (λ s. Plan s.file s.kind s.id s.path) (named_sent (codes "INPUT") rows)
-
-abbrev pub named_migrate : List Row → Option CommandLine
-named_migrate rows = option_and_then (λ f. option_and_then (λ i. option_map (λ p. Migrate f i p) (first_of (codes "POLICY") rows)) (first_of (codes "ID") rows)) (first_of (codes "FILE") rows)
-
-abbrev pub named_upgrade : List Row → Option CommandLine
-named_upgrade rows = option_and_then (λ f. option_map (λ i. Upgrade f i) (first_of (codes "ID") rows)) (first_of (codes "FILE") rows)
-
-abbrev pub named_deliver : List Row → Option CommandLine
-named_deliver rows = option_and_then (λ f. option_map (λ m. Deliver f m) (first_of (codes "MANIFEST") rows)) (first_of (codes "FILE") rows)
-
--- a report, of which the words for its days are still to come
-abbrev pub named_days : (file attribute mode : List ℕ) → List Row → Option CommandLine
-named_days file attribute mode rows = option_and_then (λ from. option_map (λ to. Report file attribute mode from to) (first_of (codes "TO") rows)) (first_of (codes "FROM") rows)
-
-abbrev pub named_report : List Row → Option CommandLine
-named_report rows = option_and_then (λ f. option_and_then (λ a. option_and_then (λ m. named_days f a m rows) (first_of (codes "MODE") rows)) (first_of (codes "ATTRIBUTE") rows)) (first_of (codes "FILE") rows)
-
--- whether an option that takes no value is given: its row says so
-abbrev pub is_given : Option (List ℕ) → Bool
-is_given None = false
-is_given (Some word) = bytes_eq word (codes "true")
-
--- a query, of which the words for its last day and its columns are still to come
-abbrev pub named_columns : (file from : List ℕ) → List Row → Option CommandLine
-named_columns file from rows =
-    option_and_then (λ t. option_map (λ columns. Query file from t columns (unwrap_or (all_of (codes "WHERE") rows) []) (is_given (first_of (codes "TABLE") rows))) (all_of (codes "BY") rows)) (first_of (codes "TO") rows)
-
-abbrev pub named_query : List Row → Option CommandLine
-named_query rows = option_and_then (λ f. option_and_then (λ d. named_columns f d rows) (first_of (codes "FROM") rows)) (first_of (codes "FILE") rows)
-
-abbrev pub named_reports : List Row → Option CommandLine
-named_reports rows = option_and_then (λ f. option_map (λ l. Reports f l) (first_of (codes "LIST") rows)) (first_of (codes "FILE") rows)
-
-abbrev pub named_queries : List Row → Option CommandLine
-named_queries rows = option_and_then (λ f. option_map (λ l. Queries f l) (first_of (codes "LIST") rows)) (first_of (codes "FILE") rows)
-
-abbrev pub named_dump : List Row → Option CommandLine
-named_dump rows = option_and_then (λ f. option_map (λ t. Dump f t) (first_of (codes "TABLE") rows)) (first_of (codes "FILE") rows)
-
-abbrev pub named_views : List Row → Option CommandLine
-named_views rows = option_map (λ f. Views f) (first_of (codes "FILE") rows)
-
-abbrev pub named_check : List Row → Option CommandLine
-named_check rows = option_map (λ f. Check f) (first_of (codes "FILE") rows)
-
-abbrev pub named_status : List Row → Option CommandLine
-named_status rows = option_map (λ f. Status f) (first_of (codes "FILE") rows)
-
-abbrev pub named_session : List Row → Option CommandLine
-named_session rows = option_map (λ f. Session f) (first_of (codes "FILE") rows)
-
--- what a subcommand names, with its rows
-abbrev pub named_by : Text → List Row → Option CommandLine
-named_by name rows =
-    if bytes_eq name (codes "trial") then named_trial rows
-    else if bytes_eq name (codes "explain") then named_explain rows
-    else if bytes_eq name (codes "records") then named_records rows
-    else if bytes_eq name (codes "query") then named_query rows
-    else if bytes_eq name (codes "init") then named_init rows
-    else if bytes_eq name (codes "load") then named_load rows
-    else if bytes_eq name (codes "migrate") then named_migrate rows
-    else if bytes_eq name (codes "upgrade") then named_upgrade rows
-    else if bytes_eq name (codes "deliver") then named_deliver rows
-    else if bytes_eq name (codes "plan") then named_plan rows
-    else if bytes_eq name (codes "report") then named_report rows
-    else if bytes_eq name (codes "reports") then named_reports rows
-    else if bytes_eq name (codes "queries") then named_queries rows
-    else if bytes_eq name (codes "dump") then named_dump rows
-    else if bytes_eq name (codes "views") then named_views rows
-    else if bytes_eq name (codes "check") then named_check rows
-    else if bytes_eq name (codes "status") then named_status rows
-    else if bytes_eq name (codes "session") then named_session rows
-    else None
-
--- the command that was met
-abbrev pub named : Option (Text × List Row) → Option CommandLine
-named met = option_and_then (λ p. named_by p.0 p.1) met
+-- what the words of a command ask for, or the line that says which of them is none of those that are listed
+abbrev pub task_of : CommandLine → Result Task Text
+task_of line = option_map_or (λ c. asks_of c (given_to c line.operands line.extra)) (command_of line.name) (Err no_command_line)

@@ -1,8 +1,8 @@
 -- Which words are those of a command.
 use Rattle.std.specs.Prelude.{◌≡◌, ◌⊎◌, ℕ, List, true, None}
 use Rattle.std.specs.List.{list_all}
-use Rattle.wh_words.specs.CommandLine.{CommandLine, Says, is_operand}
-use Rattle.wh_words.specs.Task.{asked_by, no_line, task_of}
+use Rattle.wh_words.specs.Asked.{asked_by, no_line}
+use Rattle.wh_words.specs.CommandLine.{CommandLine, Says, is_operand, task_of}
 
 -- the words of a command ask for what it is to do, or for nothing where one of them is none of those that are listed
 abbrev pub WordsAreRead : Type 0

@@ -1,7 +1,8 @@
 pub mod WrongWord
-pub mod CommandLine
-pub mod Task
 pub mod Given
+pub mod Task
+pub mod CommandLine
+pub mod Asked
 pub mod Request
 pub mod Laws
 pub mod Line

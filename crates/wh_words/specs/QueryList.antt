@@ -5,8 +5,8 @@ use Rattle.std.specs.Str.{is_utf8}
 use Rattle.wh_day.specs.Reading.{◌>>=◌}
 use Rattle.wh_batch.specs.declared.manifest.BadManifest.{BadManifest}
 use Rattle.wh_words.specs.Line.{Meaning, Passed, NoCommand, Words, lines_of, meaning_of}
-use Rattle.wh_words.specs.Task.{Task, Query, QueryWords, asked_by}
-use Rattle.wh_words.specs.Request.{query_words}
+use Rattle.wh_words.specs.Asked.{asked_by}
+use Rattle.wh_words.specs.Task.{Task, Over, Query, QueryWords, query_words}
 use Rattle.wh_words.specs.declared.line.Line.{Line}
 use Rattle.wh_words.specs.declared.line.Line.TheVariants as read
 use Rattle.wh_words.specs.declared.query_list.Said.{Said as SaidFound}
@@ -20,7 +20,7 @@ pub data Said : Type 0 where
 
 -- by the task that its words ask for
 abbrev pub task_says : Option Task → Said
-task_says (Some (Query file words)) = Asks words
+task_says (Some (Over file (Query words))) = Asks words
 task_says task = NoQuery
 
 -- words, behind `query` and any FILE

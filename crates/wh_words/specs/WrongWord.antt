@@ -5,6 +5,10 @@ use Rattle.std.specs.Prelude.{ℕ, List, [], ◌∷◌, ◌++◌, codes}
 abbrev pub line : List ℕ → List ℕ
 line text = text ++ 10 ∷ []
 
+-- no word names a command
+abbrev pub no_command_line : List ℕ
+no_command_line = line (codes "error: no command was given")
+
 -- the word that was given for an operand is none of those that are possible
 abbrev pub wrong_word_line : (operand word possible : List ℕ) → List ℕ
 wrong_word_line operand word possible = line (codes "error: " ++ operand ++ codes " is '" ++ word ++ codes "', and none of " ++ possible)

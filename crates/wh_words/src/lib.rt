@@ -3,6 +3,7 @@
 
 mod app;
 mod command;
+mod given;
 pub mod laws;
 mod line;
 mod query;

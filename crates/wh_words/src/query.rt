@@ -2,12 +2,14 @@
 
 ghost use Rattle.std.specs.Prelude.{◌≡◌, IfOk, Some, length};
 ghost use Rattle.wh_batch.specs.QueryWords.{column_given, condition_given};
-ghost use Rattle.wh_words.specs.Given.{all_words_in, as_given, words_in};
+ghost use Rattle.wh_words.specs.Given.{all_words_in, as_given, given_in, words_in};
 ghost use Rattle.wh_words.specs.Request.{asked_in};
-ghost use Rattle.wh_words.specs.Task.{each_given, query_asked, query_by, query_of};
+ghost use Rattle.wh_words.specs.Task.{OfFile, asked, asks_of, each_given, query_by, query_command, query_of};
 
-use crate::command::{QueryOperands, Request, Task, mistake, wrong_word};
+use crate::command::{Request, Task, mistake, wrong_word};
+use crate::given::{has_flag, word_for, words_for};
 use crate::wrong_word::{COLUMNS, CONDITIONS, TOO_MANY_COLUMNS, TOO_MANY_CONDITIONS};
+use clap::ArgMatches;
 use std::alloc::{AllocError, Global};
 use wh_batch::{ColumnWords, ConditionWords};
 
@@ -60,6 +62,19 @@ fn conditions_given<'a>(
     Ok(Ok(given))
 }
 
+/// The columns that the words for BY say, or the first word that says none.
+fn all_columns<'a>(
+    alloc: Global,
+    words: Option<&[&'a str]>,
+) -> Result<Result<Vec<ColumnWords<'a>>, &'a str>, AllocError>
+    ensures { IfOk result (λ given. as_given given ≡ each_given column_given (all_words_in words.entry)) }
+{
+    match words {
+        Some(words) => columns_given(alloc, words),
+        None => Ok(Ok(Vec::new(alloc))),
+    }
+}
+
 /// The conditions that the words of an option say, or the first word that says none.
 fn all_conditions<'a>(
     alloc: Global,
@@ -73,7 +88,7 @@ fn all_conditions<'a>(
     }
 }
 
-/// How often an option was given.
+/// How often a name was given.
 fn count_of(words: Option<&[&str]>) -> usize
     ensures { result ≡ length (all_words_in words.entry) }
 {
@@ -83,25 +98,25 @@ fn count_of(words: Option<&[&str]>) -> usize
     }
 }
 
-/// The query of columns and of words for conditions.
+/// The query of columns.
 fn query_by<'a>(
     alloc: Global,
-    words: &QueryOperands<'_, 'a>,
+    given: &ArgMatches<'a>,
     columns: Vec<ColumnWords<'a>>,
 ) -> Result<Request<'a>, AllocError>
-    ensures { IfOk result (λ request. asked_in request ≡ Some (query_by words.now.file.now words.now.from.now words.now.to.now columns.entry.items (all_words_in words.now.conditions) words.now.as_table)) }
+    ensures { IfOk result (λ request. asked_in request ≡ Some (asked (OfFile (λ given. query_by given columns.entry.items)) (given_in given.now))) }
 {
-    match all_conditions(alloc, words.conditions)? {
+    match all_conditions(alloc, words_for(given, "WHERE"))? {
         Ok(conditions) => {
             let asked = AskedQuery {
                 columns,
                 conditions,
-                from: words.from,
-                to: words.to,
-                as_table: words.as_table,
+                from: word_for(given, "FROM"),
+                to: word_for(given, "TO"),
+                as_table: has_flag(given, "TABLE"),
             };
             Ok(Request::Task(Task::Query {
-                file: words.file,
+                file: word_for(given, "FILE"),
                 asked,
             }))
         }
@@ -109,28 +124,28 @@ fn query_by<'a>(
     }
 }
 
-/// The query of words for columns and conditions, not too many of which there are.
-fn query_of<'a>(alloc: Global, words: &QueryOperands<'_, 'a>) -> Result<Request<'a>, AllocError>
-    ensures { IfOk result (λ request. asked_in request ≡ Some (query_of words.now.file.now words.now.from.now words.now.to.now (words_in words.now.columns.now) (all_words_in words.now.conditions) words.now.as_table)) }
+/// The query of not too many columns and conditions.
+fn query_of<'a>(alloc: Global, given: &ArgMatches<'a>) -> Result<Request<'a>, AllocError>
+    ensures { IfOk result (λ request. asked_in request ≡ Some (asked (OfFile query_of) (given_in given.now))) }
 {
-    match columns_given(alloc, words.columns)? {
-        Ok(columns) => query_by(alloc, words, columns),
+    match all_columns(alloc, words_for(given, "BY"))? {
+        Ok(columns) => query_by(alloc, given, columns),
         Err(word) => wrong_word(alloc, "BY", word, COLUMNS),
     }
 }
 
-/// The query of its operands.
+/// The query of columns, for a slice.
 pub(crate) fn query_request<'a>(
     alloc: Global,
-    words: &QueryOperands<'_, 'a>,
+    given: &ArgMatches<'a>,
 ) -> Result<Request<'a>, AllocError>
-    ensures { IfOk result (λ request. asked_in request ≡ Some (query_asked words.now.file.now words.now.from.now words.now.to.now (words_in words.now.columns.now) (all_words_in words.now.conditions) words.now.as_table)) }
+    ensures { IfOk result (λ request. asked_in request ≡ Some (asks_of query_command (given_in given.now))) }
 {
-    if 6 < words.columns.len() {
+    if 6 < count_of(words_for(given, "BY")) {
         return mistake(alloc, TOO_MANY_COLUMNS);
     }
-    if 12 < count_of(words.conditions) {
+    if 12 < count_of(words_for(given, "WHERE")) {
         return mistake(alloc, TOO_MANY_CONDITIONS);
     }
-    query_of(alloc, words)
+    query_of(alloc, given)
 }

@@ -5,8 +5,9 @@ ghost use Rattle.std.specs.List.{position};
 ghost use Rattle.wh_day.specs.Reading.{Gives};
 ghost use Rattle.wh_words.specs.Line.{Passed as PassedOver, first_line, lines_of};
 ghost use Rattle.wh_words.specs.QueryList.{IsAdded, line_says, meaning_says, queries_from, queries_of, said_in, says, says_of, task_says};
-ghost use Rattle.wh_words.specs.Request.{asked_in, query_words};
-ghost use Rattle.wh_words.specs.Task.{asked_by};
+ghost use Rattle.wh_words.specs.Asked.{asked_by};
+ghost use Rattle.wh_words.specs.Request.{asked_in};
+ghost use Rattle.wh_words.specs.Task.{query_words};
 
 use crate::command::{Request, Task, parse};
 use crate::line::{Line, read_line};

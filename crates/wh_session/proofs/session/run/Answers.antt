@@ -1,7 +1,8 @@
 use Rattle.std.proofs.Common.{◌≡◌, ◌∙◌, refl, inr, subst, sym, ℕ, Err}
 use Rattle.wh_program.specs.Answer.{memory_line, status_code}
 use Rattle.wh_program.specs.Run.{GoesOut, Prints, out_of_memory}
-use Rattle.wh_program.specs.Tasks.{IsToldBefore, warehouse_of}
+use Rattle.wh_program.specs.Tasks.{IsToldBefore}
+use Rattle.wh_words.specs.Task.{warehouse_of}
 use Rattle.wh_program.specs.Warehouse.{IsNoFileOr, PrintsShut, printed}
 use Rattle.wh_program.proofs.RunLemmas.{is_no_usage, not_run, parted, shut_all, spares_all}
 use Rattle.wh_session.specs.Session.{Session}

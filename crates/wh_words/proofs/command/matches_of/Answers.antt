@@ -2,7 +2,7 @@ use Rattle.std.proofs.Common.{ap, subst, ◌≡◌, ◌∙◌, map}
 use Rattle.std.proofs.lemmas.Result.{IfOk-weaker}
 use Rattle.clap.specs.Words.{App, FailsBy, app_of, fault_of, is_simple, is_simple_and_free, subcommand_of}
 use Rattle.wh_words.specs.CommandLine.{program_app}
-use Rattle.wh_words.specs.Task.{faults_in}
+use Rattle.wh_words.specs.Asked.{faults_in}
 use Rattle.wh_words.proofs.Program.{simple_and_free}
 use Rattle.wh_history.proofs.Basics.{both_true}
 use Rattle.wh_words.proofs.command.matches_of.Goals as goal

@@ -1,5 +1,4 @@
-use Rattle.wh_words.proofs.CommandFaults.{read}
-use Rattle.wh_words.proofs.PlainWords.{fits}
+use Rattle.wh_words.proofs.PlainWords.{fits, read}
 use Rattle.wh_words.proofs.laws.words_of_commands_are_read.Goals as goal
 
 pub returns-clause-read : goal.returns-clause-read

@@ -1,6 +1,6 @@
 use Rattle.std.proofs.Common.{map}
 use Rattle.wh_words.specs.QueryList.{said_in}
-use Rattle.wh_words.specs.Request.{query_words}
+use Rattle.wh_words.specs.Task.{query_words}
 use Rattle.wh_words.proofs.QueryListLemmas.{all_said, bad_at, good_at}
 use Rattle.wh_words.proofs.query_list.queries_from.Goals as goal
 

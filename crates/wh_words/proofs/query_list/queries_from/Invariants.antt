@@ -1,6 +1,6 @@
 use Rattle.std.proofs.Common.{map}
 use Rattle.wh_words.specs.QueryList.{queries_from, says}
-use Rattle.wh_words.specs.Request.{query_words}
+use Rattle.wh_words.specs.Task.{query_words}
 use Rattle.wh_words.proofs.QueryListLemmas.{AreSaid}
 use Rattle.wh_words.proofs.query_list.queries_from.Given as goal
 
