@@ -28,9 +28,9 @@ use Rattle.wh_engine.specs.declared.fault.Fault.TheVariants as fault
 use Rattle.wh_engine.specs.declared.session.Session.{Session}
 use Rattle.wh_program.specs.Check.{IsFoundClean, IsVerdictOn, Checks}
 use Rattle.wh_program.specs.Reply.{opening_answer, verdict_answer}
-use Rattle.wh_program.specs.Standing.{DatabaseContent, Nothing, Holds, Keeps, Standing, Rests, LeftAt, IsAt, Stands}
-use Rattle.wh_program.specs.Warehouse.{Told, IsOpenedBy}
-use Rattle.wh_program.proofs.WarehouseLemmas.{left, unopened, unread}
+use Rattle.wh_program.specs.Standing.{DatabaseContent, Nothing, Holds, Keeps, Is, Standing, Rests, LeftAt, LeavesEither, LeavesIt, IsAt, Stands}
+use Rattle.wh_program.specs.Warehouse.{Told, LooksAt, IsOpenedBy}
+use Rattle.wh_program.proofs.WarehouseLemmas.{left, unopened, unread, unread_file}
 
 -- of accepted commands
 found_clean : (limits : Limits) (commands : List Accepted) (told : Told) (verdict : Result Verdict Fault) (session : Session) (s : State)
@@ -82,9 +82,11 @@ module _ (content : DatabaseContent) (told : Told) where
       → ((stored : Stored) → RestsOn stored s1 → Covers stored.format first.format → IsChecked (stored_in first.format stored) verdict)
       → ((stored : Stored) → RestsOn stored s1 → IsServed verdict → RestsOn stored s2)
       → ((stored : Stored) → RestsOn stored s1 → LeavesStored stored s2)
+      → ((what : DatabaseContent) → IsAt what s0 → IsAt what s1)
+      → ((what : DatabaseContent) → IsAt what s1 → (after : Standing) × LeavesIt what after × Stands after s2)
       → IfOk told (λ a. a ≡ verdict_answer verdict)
       → IsAt content s0 → (after : Standing) × Checks content told after × Stands after s2
-  checked verdict first last s0 s1 s2 opens sound missing found due rests left tells at = elim content as (λ what. IsAt what s0 → (after : Standing) × Checks what told after × Stands after s2) [
+  checked verdict first last s0 s1 s2 opens sound missing found due rests left same looked tells at = elim content as (λ what. IsAt what s0 → (after : Standing) × Checks what told after × Stands after s2) [
     | Nothing ↦ λ at. absurd (missing at)
     | Holds limits commands ↦ λ at.
         let it = found_clean limits commands told verdict last s2 tells (sound limits commands (opens limits commands at.0 at.1)) in
@@ -93,6 +95,7 @@ module _ (content : DatabaseContent) (told : Told) where
         let here = found stored at in
         let it = judged stored told (record { session = first; says = here.0 }) verdict s2 tells (due stored here.1 (covers stored stored.format first.format here.0.0)) (rests stored here.1) (left stored here.1) in
         (it.0, inl it.1, it.2)
+    | Is db ↦ λ at. let it = looked (Is db) (same (Is db) at) in (it.0, inl it.1, it.2)
   ] at
 
   -- or one that was not opened
@@ -100,10 +103,12 @@ module _ (content : DatabaseContent) (told : Told) where
       → ((limits : Limits) (commands : List Accepted) → AreAdmitted limits commands → engine.Rests limits commands s0 → IsNotOpened limits commands why s1)
       → (IsAtRest None s0 → (why ≡ opening.NotAWarehouse) × IsAt Nothing s1)
       → ((stored : Stored) → RestsOn stored s0 → UnopenedBy stored why × LeavesStored stored s1 × (SparesStore why → RestsOn stored s1))
+      → ((what : DatabaseContent) → IsAt what s0 → LeavesEither what what s1 × (SparesStore why → IsAt what s1))
       → IfOk told (λ a. a ≡ opening_answer why)
       → IsAt content s0 → (after : Standing) × Checks content told after × Stands after s1
-  unchecked why s0 s1 refused missing bad tells at = elim content as (λ what. IsAt what s0 → (after : Standing) × Checks what told after × Stands after s1) [
-    | Nothing ↦ λ at. unopened IsFoundClean Nothing told why s0 s1 refused missing bad tells at
-    | Holds limits commands ↦ λ at. unopened IsFoundClean (Holds limits commands) told why s0 s1 refused missing bad tells at
+  unchecked why s0 s1 refused missing bad same tells at = elim content as (λ what. IsAt what s0 → (after : Standing) × Checks what told after × Stands after s1) [
+    | Nothing ↦ λ at. unopened IsFoundClean LooksAt Nothing told why s0 s1 refused missing bad same tells at
+    | Holds limits commands ↦ λ at. unopened IsFoundClean LooksAt (Holds limits commands) told why s0 s1 refused missing bad same tells at
     | Keeps stored ↦ λ at. let it = unread stored told why s1 tells (bad stored at) in (it.0, inr it.1, it.2)
+    | Is db ↦ λ at. let it = unread_file (Is db) told why s1 tells (same (Is db) at) in (it.0, inr it.1, it.2)
   ] at

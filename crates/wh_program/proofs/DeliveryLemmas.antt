@@ -1,8 +1,8 @@
 -- What a delivery prints, answers and leaves.
 use Rattle.std.proofs.Common.{◌≡◌, ◌≢◌, inl, inr, refl, sym, subst, ap, ap₂, ◌∙◌, arith, ℕ, suc, ◌+◌, ◌<◌, ◌≤◌, le_trans, Bool, true, List, [], ◌∷◌, ◌++◌, length, take, drop, get_or, append_assoc, append-nil, Option, Some, None, Ok, Err}
-use Rattle.std.specs.Prelude.{Result, IfOk, if◌then◌else◌, is_err}
+use Rattle.std.specs.Prelude.{◌⊎◌, Result, IfOk, if◌then◌else◌, is_err, map}
 use Rattle.std.specs.Io.KnownBytes.{Appends}
-use Rattle.std.specs.List.{list_any}
+use Rattle.std.specs.List.{AllByRecursion, list_any}
 use Rattle.std.proofs.KnownBytes.{Appends-nil, Appends-trans}
 use Rattle.std.proofs.Math.Nat.{le-max_left, le-max_right}
 use Rattle.std.proofs.Math.Seq.{take-append-add, take-append_seam}
@@ -18,21 +18,21 @@ use Rattle.wh_admission.specs.declared.command.Command.{Command}
 use Rattle.wh_admission.specs.declared.command.Refusal.{Refusal}
 use Rattle.wh_admission.specs.declared.command.Reply.{Reply}
 use Rattle.wh_admission.specs.declared.command.Reply.TheVariants.{Accepted as Accepts, Already}
-use Rattle.wh_engine.specs.Answered.{IsReady, IsAnswered}
+use Rattle.wh_engine.specs.Answered.{IsReady, IsAnswered, KeepsNothing}
 use Rattle.wh_engine.specs.Delivered.{IsDelivered as EngineDelivered, answers_to, answer_or_stop}
 use Rattle.wh_engine.specs.declared.fault.Fault.{Fault}
 use Rattle.wh_engine.specs.declared.fault.Fault.TheVariants as fault
 use Rattle.wh_engine.specs.declared.session.Session.{Session}
 use Rattle.wh_engine.proofs.Delivering.{answers_join, deliveries_join, goes_on, stopped_at}
 use Rattle.wh_program.specs.Answer.{refused, status_code}
-use Rattle.wh_program.specs.Delivery.{answered_line, answered_lines, stop_line, delivery_status, delivery_answer, due_lines, IsDelivered, Delivers, AreCommandsOf, IsFirstMissing, AnswersRead, manifest_line}
+use Rattle.wh_program.specs.Delivery.{answered_line, answered_lines, stop_line, delivery_status, delivery_answer, due_lines, IsDelivered, Delivers, Replied, replied_lines, KeepNothing, AreTrueOf, IsDeliveredOver, AreCommandsOf, IsFirstMissing, AnswersRead, manifest_line}
 use Rattle.wh_program.specs.Inputs.{Files, Refusals, as_input}
 use Rattle.wh_program.specs.Readings.{answer_after}
 use Rattle.wh_program.specs.Reply.{sent_answer}
 use Rattle.wh_program.specs.Room.{longest_answer, longest_reply}
 use Rattle.wh_program.specs.Run.{GoesOut, IsCutOff, Prints, PrintsWhole}
-use Rattle.wh_program.specs.Standing.{DatabaseContent, Holds, Standing, Rests, LeftAt, Stands}
-use Rattle.wh_program.specs.Warehouse.{Told, printed, IsCommandOf}
+use Rattle.wh_program.specs.Standing.{DatabaseContent, Holds, Standing, Unknown, Rests, LeftAt, IsAt, Stands}
+use Rattle.wh_program.specs.Warehouse.{Told, printed, IsCommandOf, IsTrueOf, RepliesOver}
 use Rattle.wh_program.specs.declared.lines.answer.Status.{Status as Ending}
 use Rattle.wh_program.specs.declared.lines.answer.Status.TheVariants as ending
 use Rattle.wh_program.proofs.RunLemmas.{cut-answer_after}
@@ -119,6 +119,15 @@ told_answer id ending.Refused (Err fault.Memory) old new goes (inl whole) = let 
 told_answer id ending.Refused (Err (fault.Store cause)) old new goes (inl whole) = let at = whole.status in absurd (omega (arith, at))
 told_answer id ending.Refused (Err fault.Reopen) old new goes (inl whole) = let at = whole.status in absurd (omega (arith, at))
 
+line_of_answer : (id : List ℕ) (reply : Result Reply Fault) (a : Result Reply Refusal) → answer_or_stop reply ≡ Ok a → (sent_answer id reply).text ≡ answered_line id a
+line_of_answer id (Ok (Accepts receipt)) a is = let same : Ok (Accepts receipt) ≡ a = cc is in ap (answered_line id) same
+line_of_answer id (Ok (Already receipt)) a is = let same : Ok (Already receipt) ≡ a = cc is in ap (answered_line id) same
+line_of_answer id (Err (fault.Refused why)) a is = let same : Err why ≡ a = cc is in ap (answered_line id) same
+line_of_answer id (Err (fault.Damaged table)) a is = absurd (cc is)
+line_of_answer id (Err fault.Memory) a is = absurd (cc is)
+line_of_answer id (Err (fault.Store cause)) a is = absurd (cc is)
+line_of_answer id (Err fault.Reopen) a is = absurd (cc is)
+
 -- a reply with the status of a failure stops a delivery
 failed_stop : (id : List ℕ) (reply : Result Reply Fault) → 3 ≡ (sent_answer id reply).status → (why : Fault) × (answer_or_stop reply ≡ Err why) × ((sent_answer id reply).text ≡ stop_line (Some why))
 failed_stop id (Ok (Accepts receipt)) is = absurd (omega (arith, is))
@@ -154,6 +163,64 @@ delivered sent limits commands told answers (Some fault.Reopen) session s tells 
 abbrev pub WhenReadyIn : Session → State → State → (Limits → List Accepted → Type 0) → Type 0
 WhenReadyIn first s0 s fact = HasCleanDisk s → (limits : Limits) (commands : List Accepted) → IsReady limits commands first s0 → fact limits commands
 
+-- ---- over what anybody wrote
+
+all_before : {X : Type 0} (P : X → Type 0) (xs : List X) (x : X) → AllByRecursion P (xs ++ x ∷ []) → AllByRecursion P xs × P x
+all_before P [] x all = (tt, all.0)
+all_before P (y ∷ xs) x all = let r = all_before P xs x all.1 in ((all.0, r.0), r.1)
+
+all_next : {X : Type 0} (P : X → Type 0) (xs : List X) (x : X) → AllByRecursion P xs → P x → AllByRecursion P (xs ++ x ∷ [])
+all_next P [] x all is = (is, tt)
+all_next P (y ∷ xs) x all is = (all.0, all_next P xs x all.1 is)
+
+commands_next : (replied : Replied) (c : Command) (reply : Result Reply Fault)
+    → map (λ (p : Command × Result Reply Fault). p.0) (replied ++ (c, reply) ∷ []) ≡ map (λ (p : Command × Result Reply Fault). p.0) replied ++ c ∷ []
+commands_next [] c reply = refl
+commands_next (p ∷ replied) c reply = ap (λ (cs : List Command). p.0 ∷ cs) (commands_next replied c reply)
+
+replies_next : (replied : Replied) (c : Command) (reply : Result Reply Fault) → replied_lines (replied ++ (c, reply) ∷ []) ≡ replied_lines replied ++ (sent_answer c.id reply).text
+replies_next [] c reply = append-nil (sent_answer c.id reply).text
+replies_next (p ∷ replied) c reply =
+    ap (λ (t : List ℕ). (sent_answer p.0.id p.1).text ++ t) (replies_next replied c reply) ∙ sym (append_assoc (sent_answer p.0.id p.1).text (replied_lines replied) (sent_answer c.id reply).text)
+
+kept_or_not : (reply : Result Reply Fault) → KeepsNothing reply ⊎ (KeepsNothing reply → ⊥)
+kept_or_not (Ok (Accepts receipt)) = inr (λ none. none)
+kept_or_not (Ok (Already receipt)) = inl tt
+kept_or_not (Err (fault.Refused why)) = inl tt
+kept_or_not (Err (fault.Damaged table)) = inl tt
+kept_or_not (Err fault.Memory) = inl tt
+kept_or_not (Err (fault.Store cause)) = inr (λ none. none)
+kept_or_not (Err fault.Reopen) = inl tt
+
+all_kept_or_not : (replied : Replied) → KeepNothing replied ⊎ (KeepNothing replied → ⊥)
+all_kept_or_not [] = inl tt
+all_kept_or_not (p ∷ replied) = elim (kept_or_not p.1) [
+  | inr never ↦ inr (λ all. never all.0)
+  | inl is ↦ elim (all_kept_or_not replied) [ inl all ↦ inl (is, all) | inr never ↦ inr (λ all. never all.1) ]
+]
+
+-- what stood stands where nothing was kept, and each reply is true of it
+abbrev AreOver : Replied → State → State → Type 0
+AreOver replied s0 s = HasCleanDisk s → (content : DatabaseContent) → IsAt content s0 → KeepNothing replied → IsAt content s × AreTrueOf content replied
+
+over_next : (replied : Replied) (c : Command) (reply : Result Reply Fault) (s0 s1 s2 : State) → (HasCleanDisk s2 → HasCleanDisk s1) → AreOver replied s0 s1 → RepliesOver s1 s2 c reply → AreOver (replied ++ (c, reply) ∷ []) s0 s2
+over_next replied c reply s0 s1 s2 was before next = λ clean content at all.
+    let kept = all_before (λ (p : Command × Result Reply Fault). KeepsNothing p.1) replied (c, reply) all in
+    let here = before (was clean) content at kept.0 in
+    let one = next clean content here.0 in
+    (one.0 kept.1, all_next (λ (p : Command × Result Reply Fault). IsTrueOf content p.0 p.1) replied (c, reply) here.1 one.1)
+
+-- so it is of a delivery
+abbrev pub IsOver : List Command → Told → State → State → Type 0
+IsOver sent told s0 s = HasCleanDisk s → (content : DatabaseContent) → IsAt content s0 → (after : Standing) × IsDeliveredOver sent content told after × Stands after s
+
+delivered_over : (sent behind : List Command) (replied : Replied) (told : Told) (s0 s : State) → sent ≡ map (λ (p : Command × Result Reply Fault). p.0) replied ++ behind → (printed told).text ≡ replied_lines replied
+    → AreOver replied s0 s → IsOver sent told s0 s
+delivered_over sent behind replied told s0 s first tells over = λ clean content at. elim (all_kept_or_not replied) [
+  | inl all ↦ (let so = over clean content at all in (Rests content, record { replied = replied; behind = behind; first = first; tells = tells; leaves = λ none. (refl, so.1) }, so.0))
+  | inr never ↦ (Unknown, record { replied = replied; behind = behind; first = first; tells = tells; leaves = λ all. absurd (never all) }, tt)
+]
+
 -- The lines of the answers to these commands went out, and the answers are those that are due.
 pub record AreSent (sent : List Command) (first last : Session) (s0 s : State) (old new : Option (List ℕ)) (status : Ending) : Type 0 where
   pub answers : List (Result Reply Refusal)
@@ -161,15 +228,30 @@ pub record AreSent (sent : List Command) (first last : Session) (s0 s : State) (
   pub went : Appends old new (answered_lines sent answers)
   pub ends : status ≡ delivery_status answers None
   pub clean : HasCleanDisk s → HasCleanDisk s0
+  pub replied : Replied
+  pub of : map (λ (p : Command × Result Reply Fault). p.0) replied ≡ sent
+  pub lines : replied_lines replied ≡ answered_lines sent answers
+  pub over : AreOver replied s0 s
   pub due : WhenReadyIn first s0 s (λ limits commands. (answers ≡ answers_to limits commands sent) × IsReady limits (accepted_after_all limits commands sent) last s)
 
 -- a delivery went out, whole or in part
 abbrev pub IsOut : List Command → Session → State → State → Option (List ℕ) → Option (List ℕ) → ℕ → Type 0
 IsOut sent first s0 s old new code =
-    (cut : Option ℕ) × (told : Told) × GoesOut cut old new code (printed told) × WhenReadyIn first s0 s (λ limits commands. (after : Standing) × Delivers cut sent limits commands told after × Stands after s)
+    (cut : Option ℕ) × (told : Told) × GoesOut cut old new code (printed told) × WhenReadyIn first s0 s (λ limits commands. (after : Standing) × Delivers cut sent limits commands told after × Stands after s) × IsOver sent told s0 s
 
 pub none_sent : (first : Session) (s : State) (out : Option (List ℕ)) → AreSent [] first first s s out out ending.Done
-none_sent first s out = record { answers = []; many = refl; went = Appends-nil out; ends = refl; clean = λ clean. clean; due = λ clean limits commands ready. (refl, ready) }
+none_sent first s out = record {
+  answers = [];
+  many = refl;
+  went = Appends-nil out;
+  ends = refl;
+  clean = λ clean. clean;
+  replied = [];
+  of = refl;
+  lines = refl;
+  over = λ clean content at all. (at, tt);
+  due = λ clean limits commands ready. (refl, ready);
+}
 
 -- where all are sent
 pub all_out : (sent : List Command) (first last : Session) (s0 s : State) (old new : Option (List ℕ)) (status : Ending) → AreSent sent first last s0 s old new status → IsOut sent first s0 s old new (status_code status)
@@ -177,12 +259,26 @@ all_out sent first last s0 s old new status are = (
   None,
   Ok (delivery_answer sent are.answers None),
   record { status = ap status_code are.ends; text = subst (Appends old new) (sym (append-nil (answered_lines sent are.answers))) are.went },
-  λ clean limits commands ready. delivered sent limits commands (Ok (delivery_answer sent are.answers None)) are.answers None last s refl (are.due clean limits commands ready),
+  (λ clean limits commands ready. delivered sent limits commands (Ok (delivery_answer sent are.answers None)) are.answers None last s refl (are.due clean limits commands ready)),
+  delivered_over sent [] are.replied (Ok (delivery_answer sent are.answers None)) s0 s (sym are.of ∙ sym (append-nil (map (λ (p : Command × Result Reply Fault). p.0) are.replied))) (append-nil (answered_lines sent are.answers) ∙ sym are.lines) are.over,
 )
 
 module _ (before : List Command) (c : Command) (first at last : Session) (s0 s1 s2 : State) (old mid new : Option (List ℕ)) (status told : Ending) (reply : Result Reply Fault)
     (are : AreSent before first at s0 s1 old mid status) (prints : Prints mid new (status_code told) (sent_answer c.id reply)) (clean : HasCleanDisk s2 → HasCleanDisk s1)
-    (answered : WhenReadyIn at s1 s2 (λ limits commands. IsAnswered limits commands c reply last s2)) where
+    (answered : WhenReadyIn at s1 s2 (λ limits commands. IsAnswered limits commands c reply last s2)) (one : RepliesOver s1 s2 c reply) where
+  -- what was replied up to it
+  abbrev replied : Replied
+  replied = are.replied ++ (c, reply) ∷ []
+
+  over : AreOver replied s0 s2
+  over = over_next are.replied c reply s0 s1 s2 clean are.over one
+
+  of_those : map (λ (p : Command × Result Reply Fault). p.0) replied ≡ before ++ c ∷ []
+  of_those = commands_next are.replied c reply ∙ ap (λ (cs : List Command). cs ++ c ∷ []) are.of
+
+  their_lines : replied_lines replied ≡ answered_lines before are.answers ++ (sent_answer c.id reply).text
+  their_lines = replies_next are.replied c reply ∙ ap (λ (t : List ℕ). t ++ (sent_answer c.id reply).text) are.lines
+
   -- one more
   next_sent : (next : Ending) (a : Result Reply Refusal) → answer_or_stop reply ≡ Ok a → Appends mid new (answered_line c.id a) → next ≡ delivery_status (are.answers ++ a ∷ []) None
       → AreSent (before ++ c ∷ []) first last s0 s2 old new next
@@ -192,6 +288,10 @@ module _ (before : List Command) (c : Command) (first at last : Session) (s0 s1 
     went = subst (Appends old new) (sym (lines_next before are.answers c a are.many)) (Appends-trans old mid new (answered_lines before are.answers) (answered_line c.id a) are.went line);
     ends = ends;
     clean = λ after. are.clean (clean after);
+    replied = replied;
+    of = of_those;
+    lines = their_lines ∙ ap (λ (t : List ℕ). answered_lines before are.answers ++ t) (line_of_answer c.id reply a is) ∙ sym (lines_next before are.answers c a are.many);
+    over = over;
     due = λ after limits commands ready.
         let was = are.due (clean after) limits commands ready in
         let list = accepted_after_all limits commands before in
@@ -221,6 +321,9 @@ module _ (before : List Command) (c : Command) (first at last : Session) (s0 s1 
     abbrev sent : List Command
     sent = before ++ c ∷ behind
 
+    parts : sent ≡ map (λ (p : Command × Result Reply Fault). p.0) replied ++ behind
+    parts = sym (append_assoc before (c ∷ []) behind) ∙ ap (λ (cs : List Command). cs ++ behind) (sym of_those)
+
     -- the line of what stopped them is the last
     stop_out : status_code told ≡ 3 → PrintsWhole mid new (status_code told) (sent_answer c.id reply) → IsOut sent first s0 s2 old new (status_code told)
     stop_out failed whole =
@@ -235,12 +338,13 @@ module _ (before : List Command) (c : Command) (first at last : Session) (s0 s1 
           None,
           Ok answer,
           record { status = failed; text = subst (Appends old new) lines (Appends-trans old mid new (answered_lines before answers) (sent_answer c.id reply).text are.went whole.text) },
-          λ after limits commands ready.
+          (λ after limits commands ready.
               let was = are.due (clean after) limits commands ready in
               let list = accepted_after_all limits commands before in
               delivered sent limits commands (Ok answer) answers (Some stop.0) last s2 refl
               (stopped_at limits commands sent c answers reply stop.0 last s2 (was.0 ∙ ap (answers_to limits commands) (sym here)) fewer (next ∙ ap (λ xs. xs ++ c ∷ []) (sym here))
-              (subst (λ xs. IsAnswered limits (accepted_after_all limits commands xs) c reply last s2) (sym here) (answered after limits list was.1)) stop.1),
+              (subst (λ xs. IsAnswered limits (accepted_after_all limits commands xs) c reply last s2) (sym here) (answered after limits list was.1)) stop.1)),
+          delivered_over sent behind replied (Ok answer) s0 s2 parts (sym lines ∙ sym their_lines) over,
         )
 
     -- the line of the reply was cut off
@@ -251,7 +355,7 @@ module _ (before : List Command) (c : Command) (first at last : Session) (s0 s1 
           Some (length lines + kept),
           Ok answer,
           cut-answer_after old mid new (status_code told) kept lines (sent_answer c.id reply) are.went cut,
-          λ after limits commands ready.
+          (λ after limits commands ready.
               let was = are.due (clean after) limits commands ready in
               let list = accepted_after_all limits commands before in
               let ended = left (λ told. answer_to limits list c ≡ told) list (accepted_after limits list c) limits reply last s2 (answered after limits list was.1) in
@@ -268,7 +372,8 @@ module _ (before : List Command) (c : Command) (first at last : Session) (s0 s1 
                   tells = ap (λ (front : List ℕ). Ok (answer_after front (sent_answer c.id reply))) due;
                 },
                 ended.2,
-              ),
+              )),
+          delivered_over sent behind replied (Ok answer) s0 s2 parts (sym their_lines) over,
         )
 
     -- the delivery ended at it

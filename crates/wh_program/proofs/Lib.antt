@@ -5,6 +5,7 @@ pub mod InputLemmas
 pub mod OutputLemmas
 pub mod ReadingLemmas
 pub mod ListLemmas
+pub mod LookingLemmas
 pub mod WarehouseLemmas
 pub mod ExplainLemmas
 pub mod ViewLemmas

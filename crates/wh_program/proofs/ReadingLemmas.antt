@@ -1,5 +1,5 @@
 -- What reports and dumps answer, and what they leave of what stood.
-use Rattle.std.proofs.Common.{◌≡◌, ◌∙◌, inl, refl, sym, ap, subst, ℕ, List, [], ◌∷◌, ◌++◌, append_assoc, append-nil, Bool, true, false, Option, Some, None, Ok, Err}
+use Rattle.std.proofs.Common.{◌≡◌, ◌∙◌, inl, inr, refl, sym, ap, subst, ℕ, List, [], ◌∷◌, ◌++◌, append_assoc, append-nil, Bool, true, false, Option, Some, None, Ok, Err}
 use Rattle.std.specs.Prelude.{Result, IfOk, IsOk, not, nat_lt, ok_or}
 use Rattle.std.specs.declared.alloc.AllocError.{AllocError}
 use Rattle.std.specs.declared.alloc.Global.{Global}
@@ -27,6 +27,9 @@ use Rattle.wh_query.specs.Answered.{Answers}
 use Rattle.wh_query.specs.Asked.{QueryAsked, in_form}
 use Rattle.wh_records.specs.Parts.{IsPartAt}
 use Rattle.wh_records.specs.declared.part.Part.{Part}
+use Rattle.wh_rows.specs.declared.table.Table.{Table}
+use Rattle.wh_store.specs.declared.fault.OpenFault.{OpenFault}
+use Rattle.wh_store.specs.declared.fault.OpenFault.TheVariants as opening
 use Rattle.wh_report.specs.Asked.{Asked}
 use Rattle.wh_report.specs.Output.{AreOut, IsOutBut, IsOutInLines, IsOfDump, of_warehouse}
 use Rattle.wh_report.specs.Reported.{Reports}
@@ -40,12 +43,12 @@ use Rattle.wh_report.specs.declared.request.RequestFault.TheVariants.{NoAttribut
 use Rattle.wh_report.specs.declared.subject.Subject.{Subject}
 use Rattle.wh_program.specs.Answer.{Printed, done, refused}
 use Rattle.wh_program.specs.Reply.{fault_answer, records_answer, request_line, report_answer}
-use Rattle.wh_program.specs.Readings.{LeavesRead, asked_under, asked_answer, queried_under, form_asked, queried_answer, query_answered, records_answered, IsAnsweredBy, answer_after, TellsLines, SaysStop, SaysWriteFailed}
+use Rattle.wh_program.specs.Readings.{LeavesRead, IsDumped, asked_under, asked_answer, queried_under, form_asked, queried_answer, query_answered, records_answered, IsAnsweredBy, answer_after, TellsLines, SaysStop, SaysWriteFailed}
 use Rattle.wh_program.specs.ReportsRead.{IsReadFor}
 use Rattle.wh_program.specs.Run.{Prints}
-use Rattle.wh_program.specs.Standing.{DatabaseContent, Nothing, Holds, Keeps, IsOfCommands, Standing, Unknown, Rests, IsAt, Stands}
+use Rattle.wh_program.specs.Standing.{DatabaseContent, Nothing, Holds, Keeps, Is, IsOfCommands, Standing, Rests, LeavesIt, IsAt, Stands}
 use Rattle.wh_words.specs.Task.{QueryWords, ReportWords}
-use Rattle.wh_program.specs.Warehouse.{Told, printed, Opens}
+use Rattle.wh_program.specs.Warehouse.{Told, printed, LeavesUnopened, LeavesUnread, Shows}
 use Rattle.wh_program.proofs.RunLemmas.{prints-answer_after, prints-cut}
 use Rattle.wh_program.proofs.WarehouseLemmas.{left as ended}
 
@@ -61,12 +64,59 @@ pub opened-printing : (does : Limits → List Accepted → Told → Standing →
     → ((limits : Limits) (commands : List Accepted) → AreAdmitted limits commands → engine.Rests limits commands s0 → IsReady limits commands first s1)
     → ((limits : Limits) (commands : List Accepted) → IsReady limits commands first s1 → (after : Standing) × ((told : Told) × does limits commands told after × prints told) × Stands after s2)
     → (IsAtRest None s0 → ⊥)
-    → IsAt content s0 → (after : Standing) × (IsOfCommands content → (told : Told) × Opens does content told after × prints told) × Stands after s2
-opened-printing does prints content first s0 s1 s2 opens works missing at = elim content as (λ what. IsAt what s0 → (after : Standing) × (IsOfCommands what → (told : Told) × Opens does what told after × prints told) × Stands after s2) [
+    → ((what : DatabaseContent) → IsAt what s0 → IsAt what s1)
+    → ((what : DatabaseContent) → IsAt what s1 → (after : Standing) × LeavesIt what after × Stands after s2)
+    → ((limits : Limits) (commands : List Accepted) (told : Told) (after : Standing) → does limits commands told after → LeavesIt (Holds limits commands) after)
+    → IsAt content s0 → (after : Standing) × ((IsOfCommands content → (told : Told) × Shows does content told after × prints told) × LeavesIt content after) × Stands after s2
+opened-printing does prints content first s0 s1 s2 opens works missing same looked leaves at = elim content as (λ what. IsAt what s0 → (after : Standing) × ((IsOfCommands what → (told : Told) × Shows does what told after × prints told) × LeavesIt what after) × Stands after s2) [
   | Nothing ↦ λ at. absurd (missing at)
-  | Holds limits commands ↦ λ at. let worked = works limits commands (opens limits commands at.0 at.1) in (worked.0, (λ _. (worked.1.0, inl worked.1.1, worked.1.2)), worked.2)
-  | Keeps stored ↦ λ at. (Unknown, (λ none. absurd none), tt)
+  | Holds limits commands ↦ λ at.
+      let worked = works limits commands (opens limits commands at.0 at.1) in
+      (worked.0, ((λ _. (worked.1.0, inl worked.1.1, worked.1.2)), leaves limits commands worked.1.0 worked.0 worked.1.1), worked.2)
+  | Keeps stored ↦ λ at. let it = looked (Keeps stored) (same (Keeps stored) at) in (it.0, ((λ none. absurd none), it.1), it.2)
+  | Is db ↦ λ at. let it = looked (Is db) (same (Is db) at) in (it.0, ((λ none. absurd none), it.1), it.2)
 ] at
+
+-- ---- what stands is left
+
+read_left : (limits : Limits) (commands : List Accepted) (read : Result (Unit {0}) Fault) (after : Standing) → LeavesRead limits commands read after → LeavesIt (Holds limits commands) after
+read_left limits commands (Ok read) after leaves = inl leaves.1
+read_left limits commands (Err (fault.Refused why)) after leaves = inl leaves.1
+read_left limits commands (Err fault.Memory) after leaves = inl leaves
+read_left limits commands (Err (fault.Store cause)) after leaves = inr leaves
+read_left limits commands (Err (fault.Damaged table)) after leaves = absurd leaves
+read_left limits commands (Err fault.Reopen) after leaves = absurd leaves
+
+pub dumped_left : (table : Table) (limits : Limits) (commands : List Accepted) (told : Told) (after : Standing) → IsDumped table limits commands told after → LeavesIt (Holds limits commands) after
+dumped_left table limits commands told after is = read_left limits commands is.read after is.leaves
+
+unopened_left : (limits : Limits) (commands : List Accepted) (why : OpenFault) (after : Standing) → LeavesUnopened limits commands why after → LeavesIt (Holds limits commands) after
+unopened_left limits commands opening.NotAWarehouse after none = absurd none
+unopened_left limits commands opening.OldFormat after none = absurd none
+unopened_left limits commands opening.NewFormat after none = absurd none
+unopened_left limits commands (opening.Damaged table) after none = absurd none
+unopened_left limits commands opening.Memory after is = inl is
+unopened_left limits commands (opening.Store cause) after is = inr is
+
+unread_left : (content : DatabaseContent) (why : OpenFault) (after : Standing) → LeavesUnread content why after → LeavesIt content after
+unread_left content opening.NotAWarehouse after is = inl is
+unread_left content opening.OldFormat after is = inl is
+unread_left content opening.NewFormat after is = inl is
+unread_left content (opening.Damaged table) after is = inl is
+unread_left content opening.Memory after is = inl is
+unread_left content (opening.Store cause) after is = inr is
+
+-- What only looks leaves what stands, where it leaves accepted commands.
+module _ (does : Limits → List Accepted → Told → Standing → Type 0) where
+  pub shown_left : (content : DatabaseContent) (told : Told) (after : Standing) → ((limits : Limits) (commands : List Accepted) → does limits commands told after → LeavesIt (Holds limits commands) after)
+      → Shows does content told after → LeavesIt content after
+  shown_left Nothing told after leaves shows = inl shows.0
+  shown_left (Holds limits commands) told after leaves (inl did) = leaves limits commands did
+  shown_left (Holds limits commands) told after leaves (inr not) = unopened_left limits commands not.why after not.leaves
+  shown_left (Keeps stored) told after leaves (inl did) = did.1
+  shown_left (Keeps stored) told after leaves (inr not) = unread_left (Keeps stored) not.why after not.leaves
+  shown_left (Is db) told after leaves (inl did) = did
+  shown_left (Is db) told after leaves (inr not) = unread_left (Is db) not.why after not.leaves
 
 -- ---- what is asked
 

@@ -1,5 +1,5 @@
 -- What goes out of a run, and how it ends.
-use Rattle.std.proofs.Common.{◌≡◌, ◌≢◌, ◌∙◌, inl, inr, ℕ, ◌+◌, List, ◌∷◌, ◌++◌, length, take, append_assoc, Option, Some, None, Err, subst, sym, ap, arith}
+use Rattle.std.proofs.Common.{◌≡◌, ◌≢◌, ◌∙◌, inl, inr, ℕ, ◌+◌, List, ◌∷◌, ◌++◌, length, take, append_assoc, Option, Some, None, Err, refl, subst, sym, ap, arith}
 use Rattle.std.specs.Io.KnownBytes.{Appends}
 use Rattle.std.specs.declared.alloc.AllocError.{AllocError}
 use Rattle.std.proofs.KnownBytes.{Appends-trans}
@@ -9,7 +9,8 @@ use Rattle.wh_program.specs.Answer.{Printed, status_code, write_line}
 use Rattle.wh_program.specs.Inputs.{Files, Refusals}
 use Rattle.wh_program.specs.Readings.{SaysWriteFailed, answer_after}
 use Rattle.wh_program.specs.Run.{GoesOut, IsCutOff, Prints}
-use Rattle.wh_words.specs.Task.{Task, Trial, Init, Load, Migrate, Upgrade, Deliver, Plan, Explain, ExplainInit, Records, Query, Report, Reports, Queries, Dump, Views, Check, Status, Session}
+use Rattle.wh_words.specs.Task.{Task, Trial, Over, Init, Load, Migrate, Upgrade, Deliver, Plan, Explain, ExplainInit, Records, Query, Report, Reports, Queries, Dump, Views, Check, Status, Session}
+use Rattle.wh_program.specs.Standing.{Rests}
 use Rattle.wh_program.specs.Tasks.{Stores, Runs, SparesOthers, WhenShut}
 use Rattle.wh_program.specs.Warehouse.{Told, PrintsAnswer, printed}
 use Rattle.wh_program.specs.declared.lines.answer.Status.{Status as Ending}
@@ -77,22 +78,22 @@ shut_all shut (Some name) says all = λ is. all name
 pub not_run : (holds : Files) (refuses : Refusals) (before : Stores) (same : Type 0) (prints : Told → Type 0) (goes_out : Option ℕ → Told → Type 0) (e : AllocError) (task : Task)
     → same → prints (Err e) → (cut : Option ℕ) × goes_out cut (Err e) → Runs holds refuses before before same prints goes_out task
 not_run holds refuses before same prints goes_out e (Trial dim path policy) is p went = (is, (Err e, tt, p))
-not_run holds refuses before same prints goes_out e (Init file policy) is p went = ((λ content stood. (Err e, inr (record { same = stood; tells = tt }), p)), (Err e, inr (is, tt), p))
-not_run holds refuses before same prints goes_out e (Load file kind id path) is p went = λ content stood. (Err e, inr (record { same = stood; tells = tt }), p)
-not_run holds refuses before same prints goes_out e (Migrate file id policy) is p went = λ content stood. (Err e, inr (record { same = stood; tells = tt }), p)
-not_run holds refuses before same prints goes_out e (Upgrade file id) is p went = λ content stood. (Err e, inr (record { same = stood; tells = tt }), p)
-not_run holds refuses before same prints goes_out e (Deliver file manifest) is p went = λ content stood. (went.0, Err e, inr (record { same = stood; tells = tt }), went.1)
-not_run holds refuses before same prints goes_out e (Plan file kind id path) is p went = λ content stood. (Err e, inr (record { same = stood; tells = tt }), p)
-not_run holds refuses before same prints goes_out e (Explain file kind None) is p went = λ content stood. (Err e, inr (record { same = stood; tells = tt }), p)
-not_run holds refuses before same prints goes_out e (Explain file kind (Some path)) is p went = λ content stood. (Err e, inr (record { same = stood; tells = tt }), p)
-not_run holds refuses before same prints goes_out e (ExplainInit file policy) is p went = (is, (Err e, tt, p))
-not_run holds refuses before same prints goes_out e (Report file words) is p went = λ content stood. (Err e, inr (record { same = stood; tells = tt }), p)
-not_run holds refuses before same prints goes_out e (Records file dim from) is p went = λ content stood. (Err e, inr (record { same = stood; tells = tt }), p)
-not_run holds refuses before same prints goes_out e (Query file words) is p went = λ content stood. (Err e, inr (record { same = stood; tells = tt }), p)
-not_run holds refuses before same prints goes_out e (Reports file list) is p went = λ content stood. (Err e, inr (record { same = stood; tells = tt }), p)
-not_run holds refuses before same prints goes_out e (Queries file list) is p went = λ content stood. (Err e, inr (record { same = stood; tells = tt }), p)
-not_run holds refuses before same prints goes_out e (Dump file table) is p went = λ content of_commands stood. (Err e, inr (record { same = stood; tells = tt }), p)
-not_run holds refuses before same prints goes_out e (Views file) is p went = λ content stood. (Err e, inr (record { same = stood; tells = tt }), p)
-not_run holds refuses before same prints goes_out e (Check file) is p went = λ content stood. (Err e, inr (record { same = stood; tells = tt }), p)
-not_run holds refuses before same prints goes_out e (Status file) is p went = λ content stood. (Err e, inr (record { same = stood; tells = tt }), p)
-not_run holds refuses before same prints goes_out e (Session file) is p went = (is, (Err e, tt, p))
+not_run holds refuses before same prints goes_out e (Over file (Init policy)) is p went = ((λ content stood. (Err e, inr (record { same = stood; tells = tt }), p)), (Err e, inr (is, tt), p))
+not_run holds refuses before same prints goes_out e (Over file (Load kind id path)) is p went = λ content stood. (Err e, inr (record { same = stood; tells = tt }), p)
+not_run holds refuses before same prints goes_out e (Over file (Migrate id policy)) is p went = λ content stood. (Err e, inr (record { same = stood; tells = tt }), p)
+not_run holds refuses before same prints goes_out e (Over file (Upgrade id)) is p went = λ content stood. (Err e, inr (record { same = stood; tells = tt }), p)
+not_run holds refuses before same prints goes_out e (Over file (Deliver manifest)) is p went = λ content stood. (went.0, Err e, inr (record { same = stood; tells = tt }), went.1)
+not_run holds refuses before same prints goes_out e (Over file (Plan kind id path)) is p went = λ content stood. (Err e, inr (record { same = stood; tells = tt }), p)
+not_run holds refuses before same prints goes_out e (Over file (Explain kind None)) is p went = λ content stood. (Err e, inr (record { same = stood; tells = tt }), p)
+not_run holds refuses before same prints goes_out e (Over file (Explain kind (Some path))) is p went = λ content stood. (Err e, inr (record { same = stood; tells = tt }), p)
+not_run holds refuses before same prints goes_out e (Over file (ExplainInit policy)) is p went = (is, (Err e, tt, p))
+not_run holds refuses before same prints goes_out e (Over file (Report words)) is p went = λ content stood. (Err e, inr (record { same = stood; tells = tt }), p)
+not_run holds refuses before same prints goes_out e (Over file (Records dim from)) is p went = λ content stood. (Err e, inr (record { same = stood; tells = tt }), p)
+not_run holds refuses before same prints goes_out e (Over file (Query words)) is p went = λ content stood. (Err e, inr (record { same = stood; tells = tt }), p)
+not_run holds refuses before same prints goes_out e (Over file (Reports list)) is p went = λ content stood. (Err e, inr (record { same = stood; tells = tt }), p)
+not_run holds refuses before same prints goes_out e (Over file (Queries list)) is p went = λ content stood. (Err e, inr (record { same = stood; tells = tt }), p)
+not_run holds refuses before same prints goes_out e (Over file (Dump table)) is p went = ((λ content of_commands stood. (Err e, inr (record { same = stood; tells = tt }), p)), (λ content stood. (Rests content, inl refl, stood)))
+not_run holds refuses before same prints goes_out e (Over file Views) is p went = λ content stood. (Err e, inr (record { same = stood; tells = tt }), p)
+not_run holds refuses before same prints goes_out e (Over file Check) is p went = λ content stood. (Err e, inr (record { same = stood; tells = tt }), p)
+not_run holds refuses before same prints goes_out e (Over file Status) is p went = λ content stood. (Err e, inr (record { same = stood; tells = tt }), p)
+not_run holds refuses before same prints goes_out e (Over file Session) is p went = (is, (Err e, tt, p))

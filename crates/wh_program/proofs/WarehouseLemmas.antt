@@ -5,7 +5,8 @@ use Rattle.std.specs.List.{list_any}
 use Rattle.std.proofs.lemmas.Result.{IfOk-weaker}
 use Rattle.std.specs.declared.alloc.AllocError.{AllocError}
 use Rattle.sqlite.specs.Change.{is_used}
-use Rattle.sqlite.specs.State.{State}
+use Rattle.sqlite.specs.Effect.{Database}
+use Rattle.sqlite.specs.State.{State, HasCleanDisk}
 use Rattle.wh_policy.specs.Policy.{read_policy}
 use Rattle.wh_policy.specs.declared.fault.PolicyFault.{PolicyFault}
 use Rattle.wh_policy.specs.declared.policy.Policy.{Policy}
@@ -20,12 +21,14 @@ use Rattle.wh_plan.specs.Edits.{Edits}
 use Rattle.wh_model.specs.Sound.{making_of}
 use Rattle.wh_admission.specs.Admission.{answer, accepted_after, AreAdmitted}
 use Rattle.wh_engine.specs.Answered as engine
-use Rattle.wh_engine.specs.Answered.{IsReady, IsLeft, IsAnswered, IsPlanOf, IsForetold as EngineForetold, IsCounted as EngineCounted, counts_of}
+use Rattle.wh_engine.specs.Faults.{BlamesDamage}
+use Rattle.wh_engine.specs.Answered.{IsReady, IsLeft, IsAgain, IsAnswered, KeepsNothing, IsPlanOf, IsForetold as EngineForetold, IsCounted as EngineCounted, counts_of}
 use Rattle.wh_engine.specs.Outcome.{Left, At, Between, Outcome}
 use Rattle.wh_engine.specs.Opened.{SessionIs, IsUnopened as UnopenedBy, IsNotOpened, IsNotMade, NothingIsWritten, LeavesMade}
 use Rattle.wh_admission.specs.declared.command.Command.{Command}
 use Rattle.wh_admission.specs.declared.command.Refusal.{Refusal}
 use Rattle.wh_admission.specs.declared.command.Reply.{Reply}
+use Rattle.wh_admission.specs.declared.command.Reply.TheVariants as replies
 use Rattle.wh_engine.specs.declared.counts.Counts.{Counts}
 use Rattle.wh_engine.specs.declared.fault.Fault.{Fault}
 use Rattle.wh_engine.specs.declared.fault.Fault.TheVariants as fault
@@ -45,8 +48,8 @@ use Rattle.wh_program.specs.Answer.{Printed, done, refused, failed, no_file_line
 use Rattle.wh_program.specs.Explained.{Begins, IsDescribed, IsExplained, first_of_kind, preview_answer}
 use Rattle.wh_program.specs.Inputs.{Files, Refusals}
 use Rattle.wh_program.specs.Reply.{sent_answer, plan_answer, opening_answer, status_answer, making_answer, made_line}
-use Rattle.wh_program.specs.Standing.{DatabaseContent, Nothing, Holds, Keeps, Standing, Unknown, Rests, LeftAt, left_standing, IsAt, Stands}
-use Rattle.wh_program.specs.Warehouse.{Told, printed, Opens, IsUnread, IsReplied, IsForetold, IsCounted, Makes, AnswersWith, AnswersShut, PrintsShut, IsNoFile, IsNoFileOr, IsTried, IsNotConnected}
+use Rattle.wh_program.specs.Standing.{DatabaseContent, Nothing, Holds, Keeps, Is, Standing, Unknown, Rests, LeftAt, LeavesEither, left_standing, IsAt, Stands}
+use Rattle.wh_program.specs.Warehouse.{Told, printed, Opens, IsUnread, IsUnreadFile, IsReplied, IsRepliedOver, LeavesRefused, IsTrueOf, RepliesOver, IsForetold, IsCounted, Makes, AnswersWith, AnswersShut, PrintsShut, IsNoFile, IsNoFileOr, IsTried, IsNotConnected}
 use Rattle.wh_program.specs.declared.host.HostError.{HostError}
 use Rattle.wh_program.specs.declared.host.HostError.TheVariants.{NoFile}
 
@@ -78,24 +81,40 @@ unread stored told opening.Memory s tells bad = (Rests (Keeps stored), record { 
 unread stored told (opening.Store cause) s tells bad =
     (LeftAt (Keeps stored) (Keeps stored), record { why = opening.Store cause; unopened = bad.0; leaves = refl; tells = tells }, record { each = λ trees may. inl (bad.1.each trees may) })
 
+-- and of any database
+pub unread_file : (content : DatabaseContent) (told : Told) (why : OpenFault) (s : State) → IfOk told (λ a. a ≡ opening_answer why) → LeavesEither content content s × (SparesStore why → IsAt content s)
+    → (after : Standing) × IsUnreadFile content told after × Stands after s
+unread_file content told opening.NotAWarehouse s tells left = (Rests content, record { why = opening.NotAWarehouse; leaves = refl; tells = tells }, left.1 tt)
+unread_file content told opening.OldFormat s tells left = (Rests content, record { why = opening.OldFormat; leaves = refl; tells = tells }, left.1 tt)
+unread_file content told opening.NewFormat s tells left = (Rests content, record { why = opening.NewFormat; leaves = refl; tells = tells }, left.1 tt)
+unread_file content told (opening.Damaged table) s tells left = (Rests content, record { why = opening.Damaged table; leaves = refl; tells = tells }, left.1 tt)
+unread_file content told opening.Memory s tells left = (Rests content, record { why = opening.Memory; leaves = refl; tells = tells }, left.1 tt)
+unread_file content told (opening.Store cause) s tells left = (LeftAt content content, record { why = opening.Store cause; leaves = refl; tells = tells }, left.0)
+
 -- ---- a warehouse that is opened
 
-module _ (does : Limits → List Accepted → Told → Standing → Type 0) (content : DatabaseContent) (told : Told) where
+module _ (does : Limits → List Accepted → Told → Standing → Type 0) (over : DatabaseContent → Told → Standing → Type 0) (content : DatabaseContent) (told : Told) where
   -- and what is done then
   pub opened : (first : Session) (s0 s1 s2 : State)
       → ((limits : Limits) (commands : List Accepted) → AreAdmitted limits commands → engine.Rests limits commands s0 → IsReady limits commands first s1)
       → ((limits : Limits) (commands : List Accepted) → IsReady limits commands first s1 → (after : Standing) × does limits commands told after × Stands after s2)
       → (IsAtRest None s0 → ⊥)
       → ((stored : Stored) → RestsOn stored s0 → SessionIs stored first × RestsOn stored s1)
-      → IsAt content s0 → (after : Standing) × Opens does content told after × Stands after s2
-  opened first s0 s1 s2 opens works missing found at = elim content as (λ what. IsAt what s0 → (after : Standing) × Opens does what told after × Stands after s2) [
+      → ((what : DatabaseContent) → IsAt what s0 → IsAt what s1)
+      → ((what : DatabaseContent) → IsAt what s1 → (after : Standing) × over what told after × Stands after s2)
+      → IsAt content s0 → (after : Standing) × Opens does over content told after × Stands after s2
+  opened first s0 s1 s2 opens works missing found same works_over at = elim content as (λ what. IsAt what s0 → (after : Standing) × Opens does over what told after × Stands after s2) [
     | Nothing ↦ λ at. absurd (missing at)
     | Holds limits commands ↦ λ at. let worked = works limits commands (opens limits commands at.0 at.1) in (worked.0, inl worked.1, worked.2)
-    | Keeps stored ↦ λ at. (Unknown, inl (record { session = first; says = (found stored at).0 }, refl), tt)
+    | Keeps stored ↦ λ at.
+        let here = found stored at in
+        let worked = works_over (Keeps stored) here.1 in
+        (worked.0, inl (record { session = first; says = here.0 }, worked.1), worked.2)
+    | Is db ↦ λ at. let worked = works_over (Is db) (same (Is db) at) in (worked.0, inl worked.1, worked.2)
   ] at
 
   not_opened : (limits : Limits) (commands : List Accepted) (why : OpenFault) (s : State) → IfOk told (λ a. a ≡ opening_answer why) → AreAdmitted limits commands → IsNotOpened limits commands why s
-      → (after : Standing) × Opens does (Holds limits commands) told after × Stands after s
+      → (after : Standing) × Opens does over (Holds limits commands) told after × Stands after s
   not_opened limits commands opening.NotAWarehouse s tells accepted none = absurd none
   not_opened limits commands opening.OldFormat s tells accepted none = absurd none
   not_opened limits commands opening.NewFormat s tells accepted none = absurd none
@@ -110,12 +129,14 @@ module _ (does : Limits → List Accepted → Told → Standing → Type 0) (con
       → ((limits : Limits) (commands : List Accepted) → AreAdmitted limits commands → engine.Rests limits commands s0 → IsNotOpened limits commands why s1)
       → (IsAtRest None s0 → (why ≡ opening.NotAWarehouse) × IsAt Nothing s1)
       → ((stored : Stored) → RestsOn stored s0 → UnopenedBy stored why × LeavesStored stored s1 × (SparesStore why → RestsOn stored s1))
+      → ((what : DatabaseContent) → IsAt what s0 → LeavesEither what what s1 × (SparesStore why → IsAt what s1))
       → IfOk told (λ a. a ≡ opening_answer why)
-      → IsAt content s0 → (after : Standing) × Opens does content told after × Stands after s1
-  unopened why s0 s1 refused missing bad tells at = elim content as (λ what. IsAt what s0 → (after : Standing) × Opens does what told after × Stands after s1) [
+      → IsAt content s0 → (after : Standing) × Opens does over content told after × Stands after s1
+  unopened why s0 s1 refused missing bad same tells at = elim content as (λ what. IsAt what s0 → (after : Standing) × Opens does over what told after × Stands after s1) [
     | Nothing ↦ λ at. let m = missing at in (Rests Nothing, (refl, subst (λ w. IfOk told (λ a. a ≡ opening_answer w)) m.0 tells), m.1)
     | Holds limits commands ↦ λ at. not_opened limits commands why s1 tells at.0 (refused limits commands at.0 at.1)
     | Keeps stored ↦ λ at. let left = unread stored told why s1 tells (bad stored at) in (left.0, inr left.1, left.2)
+    | Is db ↦ λ at. let left = unread_file (Is db) told why s1 tells (same (Is db) at) in (left.0, inr left.1, left.2)
   ] at
 
 -- ---- how a call of the engine ended
@@ -141,6 +162,34 @@ pub replied : (room : Type 0) (c : Command) (limits : Limits) (commands : List A
 replied room c limits commands told reply session s tells is =
     let l = left (λ told. answer limits commands c ≡ told) commands (accepted_after limits commands c) limits reply session s is in
     (l.0, λ has. record { reply = reply; leaves = l.1; tells = tells has }, l.2)
+
+-- over what anybody wrote: it stands as it was where nothing was kept
+refused_over : (content : DatabaseContent) (reply : Result Reply Fault) (s : State) → (KeepsNothing reply → IsAt content s) → (after : Standing) × LeavesRefused content reply after × Stands after s
+refused_over content (Ok (replies.Accepted receipt)) s same = (Unknown, refl, tt)
+refused_over content (Ok (replies.Already receipt)) s same = (Rests content, refl, same tt)
+refused_over content (Err (fault.Refused why)) s same = (Rests content, refl, same tt)
+refused_over content (Err (fault.Damaged table)) s same = (Rests content, refl, same tt)
+refused_over content (Err fault.Memory) s same = (Rests content, refl, same tt)
+refused_over content (Err (fault.Store cause)) s same = (Unknown, refl, tt)
+refused_over content (Err fault.Reopen) s same = (Rests content, refl, same tt)
+
+-- and what is told of its rows is so
+true_of : (content : DatabaseContent) (c : Command) (reply : Result Reply Fault) (s : State) → IsAt content s → ((stored : Stored) → RestsOn stored s → BlamesDamage stored reply × IsAgain stored c reply) → IsTrueOf content c reply
+true_of Nothing c reply s at says = tt
+true_of (Holds limits commands) c reply s at says = tt
+true_of (Keeps stored) c reply s at says = says stored at
+true_of (Is db) c reply s at says = tt
+
+pub replies_over : (old new : State) (c : Command) (reply : Result Reply Fault) → (HasCleanDisk new → (content : DatabaseContent) → IsAt content old → KeepsNothing reply → IsAt content new)
+    → (HasCleanDisk new → (stored : Stored) → RestsOn stored old → BlamesDamage stored reply × IsAgain stored c reply) → RepliesOver old new c reply
+replies_over old new c reply same says = λ clean content at. (same clean content at, true_of content c reply old at (says clean))
+
+pub replied_over : (room : Type 0) (c : Command) (content : DatabaseContent) (told : Told) (reply : Result Reply Fault) (old new : State)
+    → (room → printed told ≡ sent_answer c.id reply) → IsAt content old → (KeepsNothing reply → IsAt content new) → ((stored : Stored) → RestsOn stored old → BlamesDamage stored reply × IsAgain stored c reply)
+    → (after : Standing) × (room → IsRepliedOver c content told after) × Stands after new
+replied_over room c content told reply old new tells at same says =
+    let l = refused_over content reply new same in
+    (l.0, λ has. record { reply = reply; leaves = l.1; is_true = true_of content c reply old at says; tells = tells has }, l.2)
 
 -- a plan
 pub foretold : (c : Command) (limits : Limits) (commands : List Accepted) (told : Told) (edits : Result Edits Fault) (session : Session) (s : State)
@@ -190,6 +239,7 @@ made_ok (Keeps stored) bytes told policy limits session s0 s1 most reads makes f
 made_ok (Holds l cs) bytes told policy limits session s0 s1 most reads makes free tells at =
     let taken : is_any_taken s0.now.schema ≡ true = ap is_any_taken at.1.rests.now.schema ∙ taken_in at.1.tables.format in
     absurd (cc (free, taken))
+made_ok (Is db) bytes told policy limits session s0 s1 most reads makes free tells at = (Unknown, inl (sym (ap (λ (d : Database). is_any_taken d.schema) at.now) ∙ free, refl), tt)
 
 unmade_store : (bytes : List ℕ) (told : Told) (why : InitFault) (s1 : State) (read : Result Policy PolicyFault) → read_policy bytes ≡ read → IsOk read
     → ((policy : Policy) (after : Standing) → read_policy bytes ≡ Ok policy → after ≡ LeftAt Nothing (Holds greatest_limits (making_of policy bytes ∷ [])) → Makes bytes Nothing told after)
@@ -215,6 +265,13 @@ unmade_nothing bytes told making.Memory s1 refused same left tells = (Rests Noth
 unmade_nothing bytes told (making.Store cause) s1 refused same left tells =
     unmade_store bytes told (making.Store cause) s1 (read_policy bytes) refl refused (λ policy after e is. inr (record { why = making.Store cause; leaves = (policy, e, is); tells = tells })) left
 
+unmade_in : (db : Database) (bytes : List ℕ) (told : Told) (why : InitFault) (s0 s1 : State)
+    → IsNotMade bytes (is_any_taken s0.now.schema) why → (is_any_taken s0.now.schema ≡ true → (c : DatabaseContent) → IsAt c s0 → IsAt c s1)
+    → printed told ≡ making_answer why → IsAt (Is db) s0 → (taken : Bool) → is_any_taken s0.now.schema ≡ taken → (after : Standing) × Makes bytes (Is db) told after × Stands after s1
+unmade_in db bytes told why s0 s1 refused kept tells at true is =
+    (Rests (Is db), inr (record { why = why; refused = subst (λ b. IsNotMade bytes b why) is refused; same = refl; tells = tells }), kept is (Is db) at)
+unmade_in db bytes told why s0 s1 refused kept tells at false is = (Unknown, inl (sym (ap (λ (d : Database). is_any_taken d.schema) at.now) ∙ is, refl), tt)
+
 pub unmade : (content : DatabaseContent) (bytes : List ℕ) (told : Told) (why : InitFault) (limits : Limits) (s0 s1 : State)
     → limits ≡ greatest_limits → IsNotMade bytes (is_any_taken s0.now.schema) why → (NothingIsWritten why → IsAtRest None s0 → IsAtRest None s1) → (IsAtRest None s0 → LeavesMade limits bytes s1)
     → (is_any_taken s0.now.schema ≡ true → (c : DatabaseContent) → IsAt c s0 → IsAt c s1)
@@ -228,11 +285,13 @@ unmade (Holds l cs) bytes told why limits s0 s1 most refused same left kept tell
 unmade (Keeps stored) bytes told why limits s0 s1 most refused same left kept tells at =
     let taken : is_any_taken s0.now.schema ≡ true = ap is_any_taken at.now.schema ∙ taken_in stored.format in
     (Rests (Keeps stored), record { why = why; refused = subst (λ b. IsNotMade bytes b why) taken refused; same = refl; tells = tells }, kept taken (Keeps stored) at)
+unmade (Is db) bytes told why limits s0 s1 most refused same left kept tells at = unmade_in db bytes told why s0 s1 refused kept tells at (is_any_taken s0.now.schema) refl
 
 -- no memory for the line
 pub not_begun : (content : DatabaseContent) (bytes : List ℕ) (e : AllocError) (s : State) → IsAt content s → (after : Standing) × Makes bytes content (Err e) after × Stands after s
 not_begun Nothing bytes e s at = (Rests Nothing, inr (record { why = making.Memory; leaves = (tt, refl); tells = refl }), at)
 not_begun (Keeps stored) bytes e s at = (Rests (Keeps stored), record { why = making.Memory; refused = tt; same = refl; tells = refl }, at)
+not_begun (Is db) bytes e s at = (Rests (Is db), inr (record { why = making.Memory; refused = tt; same = refl; tells = refl }), at)
 not_begun (Holds l cs) bytes e s at = (Rests (Holds l cs), record { why = making.Memory; refused = tt; same = refl; tells = refl }, at)
 
 -- ---- a visit
@@ -280,6 +339,7 @@ prints_shut_or same file before prints is = (is.0, (is.1.0, IfOk-weaker is.1.0 (
 pub nothing_made : (content : DatabaseContent) (bytes : List ℕ) (fault : PolicyFault) (a : Printed) → read_policy bytes ≡ Err fault → a ≡ refused (policy_line fault) → Makes bytes content (Ok a) (Rests content)
 nothing_made Nothing bytes fault a bad tells = inr (record { why = making.Policy fault; leaves = (bad, refl); tells = tells })
 nothing_made (Holds limits commands) bytes fault a bad tells = record { why = making.Policy fault; refused = bad; same = refl; tells = tells }
+nothing_made (Is db) bytes fault a bad tells = inr (record { why = making.Policy fault; refused = bad; same = refl; tells = tells })
 nothing_made (Keeps stored) bytes fault a bad tells = record { why = making.Policy fault; refused = bad; same = refl; tells = tells }
 
 module _ (holds : Files) (refuses : Refusals) (stands : Standing → Type 0) (content : DatabaseContent) (file path bytes : List ℕ) (held : holds path (Some bytes)) where

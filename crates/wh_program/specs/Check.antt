@@ -12,8 +12,8 @@ use Rattle.wh_engine.specs.declared.fault.Fault.{Fault}
 use Rattle.wh_engine.specs.declared.fault.Fault.TheVariants as fault
 use Rattle.wh_program.specs.Inputs.{Refusals}
 use Rattle.wh_program.specs.Reply.{verdict_answer}
-use Rattle.wh_program.specs.Standing.{DatabaseContent, Nothing, Holds, Keeps, Standing, Rests, LeftAt, left_standing}
-use Rattle.wh_program.specs.Warehouse.{Told, Opens, IsOpenedBy, IsUnread, IsTried, IsNotConnected}
+use Rattle.wh_program.specs.Standing.{DatabaseContent, Nothing, Holds, Keeps, Is, Standing, Rests, LeftAt, left_standing}
+use Rattle.wh_program.specs.Warehouse.{Told, Shows, IsOpenedBy, IsUnread, AnswersWork}
 
 -- ---- of accepted commands
 
@@ -45,9 +45,10 @@ pub record IsVerdictOn (stored : Stored) (told : Told) (after : Standing) : Type
 
 -- What opens what stands and checks it.
 abbrev pub Checks : DatabaseContent → Told → Standing → Type 0
-Checks Nothing told after = Opens IsFoundClean Nothing told after
-Checks (Holds limits commands) told after = Opens IsFoundClean (Holds limits commands) told after
+Checks Nothing told after = Shows IsFoundClean Nothing told after
+Checks (Holds limits commands) told after = Shows IsFoundClean (Holds limits commands) told after
 Checks (Keeps stored) told after = IsVerdictOn stored told after ⊎ IsUnread stored told after
+Checks (Is db) told after = Shows IsFoundClean (Is db) told after
 
 abbrev pub AnswersCheck : Refusals → (Standing → Type 0) → DatabaseContent → (file : List ℕ) → Told → Type 0
-AnswersCheck refuses stands content file told = IsTried stands (Checks content) told ⊎ IsNotConnected refuses stands content file told
+AnswersCheck refuses stands = AnswersWork refuses stands Checks

@@ -1,8 +1,8 @@
 -- What a delivery answers and leaves.
-use Rattle.std.specs.Prelude.{◌≡◌, ◌⊎◌, ⊤, ℕ, suc, ◌<◌, ◌≤◌, List, [], ◌∷◌, ◌++◌, length, take, flat_map, codes, if◌then◌else◌, Option, Some, None, Result, Ok, Err, IfOk, is_err}
+use Rattle.std.specs.Prelude.{◌≡◌, ◌⊎◌, ⊤, ℕ, suc, ◌<◌, ◌≤◌, List, [], ◌∷◌, ◌++◌, length, take, map, flat_map, codes, if◌then◌else◌, Option, Some, None, Result, Ok, Err, IfOk, is_err}
 use Rattle.std.specs.Borrow.{Bor}
 use Rattle.std.specs.Fmt.{decimal}
-use Rattle.std.specs.List.{AllZip, list_any, zip}
+use Rattle.std.specs.List.{AllByRecursion, AllZip, list_any, zip}
 use Rattle.wh_day.specs.declared.error.ParseError.{ParseError}
 use Rattle.wh_day.specs.declared.error.ParseError.TheVariants as errors
 use Rattle.wh_batch.specs.Manifest.{manifest_of}
@@ -11,6 +11,7 @@ use Rattle.wh_batch.specs.declared.manifest.ManifestEntry.{ManifestEntry}
 use Rattle.wh_history.specs.Accepted.{Accepted}
 use Rattle.wh_history.specs.Tables.{Limits}
 use Rattle.wh_admission.specs.Admission.{accepted_after_all}
+use Rattle.wh_engine.specs.Answered.{KeepsNothing}
 use Rattle.wh_engine.specs.Delivered.{answers_to, AreAnswers, AreFewer}
 use Rattle.wh_admission.specs.declared.command.Command.{Command}
 use Rattle.wh_admission.specs.declared.command.Refusal.{Refusal}
@@ -23,7 +24,7 @@ use Rattle.wh_program.specs.Inputs.{Files, Refusals, as_input, as_manifest}
 use Rattle.wh_program.specs.Readings.{answer_after}
 use Rattle.wh_program.specs.Reply.{reply_answer, refused_line, fault_answer, sent_answer}
 use Rattle.wh_program.specs.Standing.{DatabaseContent, Holds, Standing, Rests, LeftAt}
-use Rattle.wh_program.specs.Warehouse.{Told, printed, LeavesReplied, IsCommandOf, AnswersWork, IsNoFile, LacksFile}
+use Rattle.wh_program.specs.Warehouse.{Told, printed, Opens, IsTrueOf, LeavesReplied, IsCommandOf, AnswersWork, IsNoFile, LacksFile}
 use Rattle.wh_program.specs.declared.lines.answer.Status.{Status}
 use Rattle.wh_program.specs.declared.lines.answer.Status.TheVariants.{Done, Refused, Failed}
 
@@ -99,6 +100,34 @@ abbrev pub Delivers : (cut : Option ℕ) → List Command → Limits → List Ac
 Delivers None = IsDelivered
 Delivers (Some kept) = IsBrokenOff kept
 
+-- commands, each with the reply to it
+abbrev pub Replied : Type 0
+Replied = List (Command × Result Reply Fault)
+
+-- the line of each reply
+abbrev pub replied_lines : Replied → List ℕ
+replied_lines replied = flat_map (λ (p : Command × Result Reply Fault). (sent_answer p.0.id p.1).text) replied
+
+-- nothing was kept by any of them
+abbrev pub KeepNothing : Replied → Type 0
+KeepNothing replied = AllByRecursion (λ (p : Command × Result Reply Fault). KeepsNothing p.1) replied
+
+-- each is true of what stood
+abbrev pub AreTrueOf : DatabaseContent → Replied → Type 0
+AreTrueOf content replied = AllByRecursion (λ (p : Command × Result Reply Fault). IsTrueOf content p.0 p.1) replied
+
+-- The engine replied to the first commands over what anybody wrote, and just that is told. Where nothing was kept, all is as it was, and each reply is true of it.
+pub record IsDeliveredOver (sent : List Command) (content : DatabaseContent) (told : Told) (after : Standing) : Type 0 where
+  pub replied : Replied
+  pub behind : List Command
+  pub first : sent ≡ map (λ (p : Command × Result Reply Fault). p.0) replied ++ behind
+  pub tells : (printed told).text ≡ replied_lines replied
+  pub leaves : KeepNothing replied → (after ≡ Rests content) × AreTrueOf content replied
+
+-- What opens what stands and delivers to it.
+abbrev pub DeliversTo : (cut : Option ℕ) → List Command → DatabaseContent → Told → Standing → Type 0
+DeliversTo cut sent = Opens (Delivers cut sent) (IsDeliveredOver sent)
+
 -- ---- the manifest and its inputs
 
 -- each entry's command, whose bytes its file holds, as far as it is read; that of an upgrade isn't
@@ -124,7 +153,7 @@ pub record IsNotSent (stands : Standing → Type 0) (content : DatabaseContent) 
 
 -- these commands were sent to the warehouse in a file, or the host refuses its name
 abbrev pub AnswersSent : Refusals → (Standing → Type 0) → (cut : Option ℕ) → DatabaseContent → (file : List ℕ) → List Command → Told → Type 0
-AnswersSent refuses stands cut content file sent told = AnswersWork refuses stands (Delivers cut sent) content file told
+AnswersSent refuses stands cut content file sent told = AnswersWork refuses stands (DeliversTo cut sent) content file told
 
 -- all commands of these entries were, or an input isn't there
 abbrev pub AnswersListed : Files → Refusals → (Standing → Type 0) → (cut : Option ℕ) → DatabaseContent → (file : List ℕ) → List ManifestEntry → Told → Type 0

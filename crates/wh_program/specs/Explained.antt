@@ -27,7 +27,7 @@ use Rattle.wh_words.specs.WrongWord.{line}
 use Rattle.wh_program.specs.Inputs.{Files, Refusals, as_input, policy_limit, up_to}
 use Rattle.wh_program.specs.Reply.{fault_answer}
 use Rattle.wh_program.specs.Standing.{DatabaseContent, Holds, Rests, Standing, left_standing}
-use Rattle.wh_program.specs.Warehouse.{Told, Opens, AnswersWith, AnswersWork, LacksFile}
+use Rattle.wh_program.specs.Warehouse.{Told, Shows, AnswersWith, AnswersWork, LacksFile}
 
 -- the answer has the status of this one, and its text comes first
 pub record Begins (first : Printed) (answer : Printed) : Type 0 where
@@ -56,7 +56,7 @@ pub record IsExplained (kind : CommandKind) (bytes : List ℕ) (limits : Limits)
 
 -- what explains these bytes as the input of a command of this kind
 abbrev pub Explains : CommandKind → (bytes : List ℕ) → DatabaseContent → Told → Standing → Type 0
-Explains kind bytes = Opens (IsExplained kind bytes)
+Explains kind bytes = Shows (IsExplained kind bytes)
 
 -- ---- what a kind takes
 
@@ -107,7 +107,7 @@ IsPolicyExplained holds (Some path) a = (file : Option (List ℕ)) × up_to poli
 
 -- the input in a file is explained, or else what the kind takes
 abbrev pub AnswersExplanation : Files → Refusals → (Standing → Type 0) → DatabaseContent → (file : List ℕ) → CommandKind → (path : Option (List ℕ)) → Told → Type 0
-AnswersExplanation holds refuses stands content file kind None told = AnswersWork refuses stands (IsDescribed kind) content file told
+AnswersExplanation holds refuses stands content file kind None told = AnswersWork refuses stands (Shows (IsDescribed kind)) content file told
 AnswersExplanation holds refuses stands content file kind (Some path) told = AnswersWith (as_input kind holds) refuses stands (Explains kind) content file path told
 
 -- the input in a file isn't there

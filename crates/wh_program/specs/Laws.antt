@@ -9,9 +9,9 @@ use Rattle.wh_batch.specs.declared.kind.CommandKind.{CommandKind}
 use Rattle.wh_batch.specs.declared.manifest.BadManifest.{BadManifest}
 use Rattle.wh_admission.specs.Admission.{content_of}
 use Rattle.wh_program.specs.Answer.{trial_rows}
-use Rattle.wh_words.specs.CommandLine.{CommandLine, Says, is_operand}
+use Rattle.wh_words.specs.CommandLine.{CommandLine, Says, is_operand, task_of}
 use Rattle.wh_program.specs.Inputs.{batch_limit, policy_limit, input_limit, read_within, manifest_limit, manifest_part}
-use Rattle.wh_words.specs.Task.{asked_by, no_line, task_of}
+use Rattle.wh_words.specs.Asked.{asked_by, no_line}
 
 -- a policy is what is read so
 abbrev pub PoliciesAreReadSo : Type 0

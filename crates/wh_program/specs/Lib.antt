@@ -4,6 +4,7 @@ pub mod PlanText
 pub mod Reply
 pub mod Run
 pub mod Standing
+pub mod Looking
 pub mod Warehouse
 pub mod Check
 pub mod Explained

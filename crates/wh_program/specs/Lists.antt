@@ -11,7 +11,7 @@ use Rattle.wh_program.specs.Inputs.{Files, Refusals, as_manifest}
 use Rattle.wh_program.specs.Readings.{LeavesRead}
 use Rattle.wh_program.specs.Reply.{fault_answer}
 use Rattle.wh_program.specs.Standing.{DatabaseContent, Standing}
-use Rattle.wh_program.specs.Warehouse.{Told, AnswersWork, LacksFile}
+use Rattle.wh_program.specs.Warehouse.{Told, Shows, AnswersWork, LacksFile}
 use Rattle.wh_program.specs.declared.lines.answer.Status.{Status}
 use Rattle.wh_program.specs.declared.lines.answer.Status.TheVariants.{Done, Refused, Failed}
 
@@ -61,7 +61,7 @@ pub record IsListed (questions : Questions) (limits : Limits) (commands : List A
 module _ {A : Type 0} (read : List ℕ → Result (List A) BadManifest) where
   -- the questions of a list that was read, each with its answer, or it is a bad one
   abbrev AnswersRead : (A → List Accepted → Printed) → Refusals → (Standing → Type 0) → DatabaseContent → (file : List ℕ) → Result (List A) BadManifest → Told → Type 0
-  AnswersRead answer refuses stands content file (Ok listed) told = AnswersWork refuses stands (IsListed (map answer listed)) content file told
+  AnswersRead answer refuses stands content file (Ok listed) told = AnswersWork refuses stands (Shows (IsListed (map answer listed))) content file told
   AnswersRead answer refuses stands content file (Err bad) told = IsNotSent stands content told (λ a. a ≡ refused (manifest_line bad))
 
   -- What the list in a file asks for, as far as it counts, which is as far as a manifest does. It is read first, and then the warehouse is opened.

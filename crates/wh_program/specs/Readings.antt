@@ -33,7 +33,7 @@ use Rattle.wh_program.specs.Reply.{fault_answer, request_line, report_fault_answ
 use Rattle.wh_program.specs.Run.{Prints}
 use Rattle.wh_program.specs.Standing.{DatabaseContent, Standing, left_standing}
 use Rattle.wh_words.specs.Task.{QueryWords, ReportWords}
-use Rattle.wh_program.specs.Warehouse.{Told, printed, Opens, IsTried, IsNotConnected, AnswersWork}
+use Rattle.wh_program.specs.Warehouse.{Told, printed, Shows, AnswersWork}
 
 -- What a call that only reads leaves of a warehouse with these commands: nothing changes.
 abbrev pub LeavesRead : Limits → List Accepted → Result (Unit {0}) Fault → Standing → Type 0
@@ -69,7 +69,7 @@ abbrev pub IsReported : ReportWords → Limits → List Accepted → Told → St
 IsReported words = IsAnsweredBy (report_answered words)
 
 abbrev pub AnswersReport : Refusals → (Standing → Type 0) → DatabaseContent → (file : List ℕ) → ReportWords → Told → Type 0
-AnswersReport refuses stands content file words told = AnswersWork refuses stands (IsReported words) content file told
+AnswersReport refuses stands content file words told = AnswersWork refuses stands (Shows (IsReported words)) content file told
 
 -- ---- query
 
@@ -91,7 +91,7 @@ abbrev pub query_answered : QueryWords → List Accepted → Printed
 query_answered words commands = queried_answer commands (form_asked words.as_table) (queried_under (current_policy commands) words)
 
 abbrev pub AnswersQuery : Refusals → (Standing → Type 0) → DatabaseContent → (file : List ℕ) → QueryWords → Told → Type 0
-AnswersQuery refuses stands content file words told = AnswersWork refuses stands (IsAnsweredBy (query_answered words)) content file told
+AnswersQuery refuses stands content file words told = AnswersWork refuses stands (Shows (IsAnsweredBy (query_answered words))) content file told
 
 -- ---- records
 
@@ -100,7 +100,7 @@ abbrev pub records_answered : Dim → ℕ → List Accepted → Printed
 records_answered dim from commands = done (records_text (policy_attributes (current_policy commands) dim) (part_at (current_policy commands) commands dim from))
 
 abbrev pub AnswersRecords : Refusals → (Standing → Type 0) → DatabaseContent → (file : List ℕ) → Dim → ℕ → Told → Type 0
-AnswersRecords refuses stands content file dim from told = AnswersWork refuses stands (IsAnsweredBy (records_answered dim from)) content file told
+AnswersRecords refuses stands content file dim from told = AnswersWork refuses stands (Shows (IsAnsweredBy (records_answered dim from))) content file told
 
 -- ---- dump
 
@@ -131,7 +131,7 @@ pub record IsDumped (table : Table) (limits : Limits) (commands : List Accepted)
   pub tells : TellsLines (lines_of_table table tables) read told
 
 abbrev pub AnswersDump : Refusals → (Standing → Type 0) → DatabaseContent → (file : List ℕ) → Table → Told → Type 0
-AnswersDump refuses stands content file table told = IsTried stands (Opens (IsDumped table) content) told ⊎ IsNotConnected refuses stands content file told
+AnswersDump refuses stands content file table told = AnswersWork refuses stands (Shows (IsDumped table)) content file told
 
 -- the writer failed, which is said as far as it could still be written
 abbrev pub SaysWriteFailed : Option (List ℕ) → Option (List ℕ) → ℕ → Type 0

@@ -3,7 +3,7 @@ use Rattle.std.specs.Prelude.{◌≡◌, ◌<◌, ◌⊎◌, ℕ, List, ◌++◌
 use Rattle.std.specs.Io.KnownBytes.{Appends}
 use Rattle.clap.specs.Words.{Kinds}
 use Rattle.wh_program.specs.Answer.{Printed, done, wrong_words, failed, memory_line, write_line}
-use Rattle.wh_words.specs.Task.{MayAskForHelp, MayBeWrong}
+use Rattle.wh_words.specs.Asked.{MayAskForHelp, MayBeWrong}
 
 -- the answer when memory ran out
 abbrev pub out_of_memory : Printed

@@ -9,9 +9,9 @@ use Rattle.wh_program.specs.Inputs.{Files, Refusals, up_to, batch_limit, policy_
 use Rattle.wh_program.specs.Readings.{AnswersReport, AnswersQuery, AnswersRecords, AnswersDump}
 use Rattle.wh_program.specs.ReportLists.{AnswersReports, LacksList}
 use Rattle.wh_program.specs.QueryLists.{AnswersQueries, LacksQueries}
-use Rattle.wh_program.specs.Standing.{DatabaseContent, IsOfCommands, Standing, Rests}
+use Rattle.wh_program.specs.Standing.{DatabaseContent, IsOfCommands, Standing, Rests, LeavesIt}
 use Rattle.wh_program.specs.Viewed.{AnswersViews}
-use Rattle.wh_words.specs.Task.{Task, Trial, Init, Load, Migrate, Upgrade, Deliver, Plan, Explain, ExplainInit, Records, Query, Report, Reports, Queries, Dump, Views, Check, Status, Session}
+use Rattle.wh_words.specs.Task.{Task, Trial, Over, Init, Load, Migrate, Upgrade, Deliver, Plan, Explain, ExplainInit, Records, Query, Report, Reports, Queries, Dump, Views, Check, Status, Session, warehouse_of}
 use Rattle.wh_program.specs.Warehouse.{Told, Makes, Sends, Plans, AnswersWith, AnswersUpgrade, AnswersStatus, IsJudgedFirst, PrintsShut, IsNoFileOr, LacksFile, LacksPolicy}
 
 -- what a host stores under its names
@@ -23,28 +23,6 @@ abbrev pub SparesOthers : (before after : Stores) → (file : Option (List ℕ))
 SparesOthers before after None = (other : List ℕ) (standing : Standing) → before other standing → after other standing
 SparesOthers before after (Some file) = (other : List ℕ) (standing : Standing) → other ≢ file → before other standing → after other standing
 
--- the name of the warehouse that a command is about; a trial is about none
-abbrev pub warehouse_of : Task → Option (List ℕ)
-warehouse_of (Trial dim path policy) = None
-warehouse_of (Init file policy) = Some file
-warehouse_of (Load file kind id path) = Some file
-warehouse_of (Migrate file id policy) = Some file
-warehouse_of (Upgrade file id) = Some file
-warehouse_of (Deliver file manifest) = Some file
-warehouse_of (Plan file kind id path) = Some file
-warehouse_of (Explain file kind path) = Some file
-warehouse_of (ExplainInit file policy) = Some file
-warehouse_of (Records file dim from) = Some file
-warehouse_of (Query file words) = Some file
-warehouse_of (Report file words) = Some file
-warehouse_of (Reports file list) = Some file
-warehouse_of (Queries file list) = Some file
-warehouse_of (Dump file table) = Some file
-warehouse_of (Views file) = Some file
-warehouse_of (Check file) = Some file
-warehouse_of (Status file) = Some file
-warehouse_of (Session file) = Some file
-
 -- over what stands under a file: this is answered and printed
 abbrev pub RunsOver : Stores → (file : List ℕ) → (DatabaseContent → Told → Type 0) → (Told → Type 0) → Type 0
 RunsOver before file answers prints = (content : DatabaseContent) → before file (Rests content) → (told : Told) × answers content told × prints told
@@ -52,6 +30,10 @@ RunsOver before file answers prints = (content : DatabaseContent) → before fil
 -- the same over what accepted commands left there
 abbrev pub RunsOverCommands : Stores → (file : List ℕ) → (DatabaseContent → Told → Type 0) → (Told → Type 0) → Type 0
 RunsOverCommands before file answers prints = (content : DatabaseContent) → IsOfCommands content → before file (Rests content) → (told : Told) × answers content told × prints told
+
+-- what stands there is left, whatever it is
+abbrev pub LeavesWhatStands : (before after : Stores) → (file : List ℕ) → Type 0
+LeavesWhatStands before after file = (content : DatabaseContent) → before file (Rests content) → (standing : Standing) × LeavesIt content standing × after file standing
 
 -- the same of an answer that is printed as it comes, by how much of it goes out
 abbrev pub RunsAlong : Stores → (file : List ℕ) → (Option ℕ → DatabaseContent → Told → Type 0) → (Option ℕ → Told → Type 0) → Type 0
@@ -61,39 +43,39 @@ RunsAlong before file answers goes_out = (content : DatabaseContent) → before 
 -- whether it is the same as before, and by how much of an answer goes out.
 abbrev pub Runs : Files → Refusals → (before after : Stores) → (same : Type 0) → (prints : Told → Type 0) → (goes_out : Option ℕ → Told → Type 0) → Task → Type 0
 Runs holds refuses before after same prints goes_out (Trial dim path policy) = same × ((told : Told) × IfOk told (AnswersTrial holds dim path policy) × prints told)
-Runs holds refuses before after same prints goes_out (Init file policy) =
+Runs holds refuses before after same prints goes_out (Over file (Init policy)) =
     RunsOver before file (λ content told. AnswersWith (up_to policy_limit holds) refuses (after file) Makes content file policy told) prints
     × ((told : Told) × IsJudgedFirst (up_to policy_limit holds) same policy told × prints told)
-Runs holds refuses before after same prints goes_out (Load file kind id path) = RunsOver before file (λ content told. AnswersWith (up_to batch_limit holds) refuses (after file) (Sends (Batch kind) id) content file path told) prints
-Runs holds refuses before after same prints goes_out (Migrate file id policy) = RunsOver before file (λ content told. AnswersWith (up_to policy_limit holds) refuses (after file) (Sends Migration id) content file policy told) prints
-Runs holds refuses before after same prints goes_out (Upgrade file id) = RunsOver before file (λ content told. AnswersUpgrade refuses (after file) content file id told) prints
-Runs holds refuses before after same prints goes_out (Deliver file manifest) = RunsAlong before file (λ cut content told. AnswersDelivery holds refuses (after file) cut content file manifest told) goes_out
-Runs holds refuses before after same prints goes_out (Plan file kind id path) = RunsOver before file (λ content told. AnswersWith (as_input kind holds) refuses (after file) (Plans kind id) content file path told) prints
-Runs holds refuses before after same prints goes_out (Explain file kind path) = RunsOver before file (λ content told. AnswersExplanation holds refuses (after file) content file kind path told) prints
-Runs holds refuses before after same prints goes_out (ExplainInit file policy) = same × ((told : Told) × IfOk told (IsPolicyExplained holds policy) × prints told)
-Runs holds refuses before after same prints goes_out (Records file dim from) = RunsOver before file (λ content told. AnswersRecords refuses (after file) content file dim from told) prints
-Runs holds refuses before after same prints goes_out (Query file words) = RunsOver before file (λ content told. AnswersQuery refuses (after file) content file words told) prints
-Runs holds refuses before after same prints goes_out (Report file words) = RunsOver before file (λ content told. AnswersReport refuses (after file) content file words told) prints
-Runs holds refuses before after same prints goes_out (Reports file list) = RunsOver before file (λ content told. AnswersReports holds refuses (after file) content file list told) prints
-Runs holds refuses before after same prints goes_out (Queries file list) = RunsOver before file (λ content told. AnswersQueries holds refuses (after file) content file list told) prints
-Runs holds refuses before after same prints goes_out (Dump file table) = RunsOverCommands before file (λ content told. AnswersDump refuses (after file) content file table told) prints
-Runs holds refuses before after same prints goes_out (Views file) = RunsOver before file (λ content told. AnswersViews refuses (after file) content file told) prints
-Runs holds refuses before after same prints goes_out (Check file) = RunsOver before file (λ content told. AnswersCheck refuses (after file) content file told) prints
-Runs holds refuses before after same prints goes_out (Status file) = RunsOver before file (λ content told. AnswersStatus refuses (after file) content file told) prints
-Runs holds refuses before after same prints goes_out (Session file) = same × ((told : Told) × IfOk told (λ a. a ≡ refused session_line) × prints told)
+Runs holds refuses before after same prints goes_out (Over file (Load kind id path)) = RunsOver before file (λ content told. AnswersWith (up_to batch_limit holds) refuses (after file) (Sends (Batch kind) id) content file path told) prints
+Runs holds refuses before after same prints goes_out (Over file (Migrate id policy)) = RunsOver before file (λ content told. AnswersWith (up_to policy_limit holds) refuses (after file) (Sends Migration id) content file policy told) prints
+Runs holds refuses before after same prints goes_out (Over file (Upgrade id)) = RunsOver before file (λ content told. AnswersUpgrade refuses (after file) content file id told) prints
+Runs holds refuses before after same prints goes_out (Over file (Deliver manifest)) = RunsAlong before file (λ cut content told. AnswersDelivery holds refuses (after file) cut content file manifest told) goes_out
+Runs holds refuses before after same prints goes_out (Over file (Plan kind id path)) = RunsOver before file (λ content told. AnswersWith (as_input kind holds) refuses (after file) (Plans kind id) content file path told) prints
+Runs holds refuses before after same prints goes_out (Over file (Explain kind path)) = RunsOver before file (λ content told. AnswersExplanation holds refuses (after file) content file kind path told) prints
+Runs holds refuses before after same prints goes_out (Over file (ExplainInit policy)) = same × ((told : Told) × IfOk told (IsPolicyExplained holds policy) × prints told)
+Runs holds refuses before after same prints goes_out (Over file (Records dim from)) = RunsOver before file (λ content told. AnswersRecords refuses (after file) content file dim from told) prints
+Runs holds refuses before after same prints goes_out (Over file (Query words)) = RunsOver before file (λ content told. AnswersQuery refuses (after file) content file words told) prints
+Runs holds refuses before after same prints goes_out (Over file (Report words)) = RunsOver before file (λ content told. AnswersReport refuses (after file) content file words told) prints
+Runs holds refuses before after same prints goes_out (Over file (Reports list)) = RunsOver before file (λ content told. AnswersReports holds refuses (after file) content file list told) prints
+Runs holds refuses before after same prints goes_out (Over file (Queries list)) = RunsOver before file (λ content told. AnswersQueries holds refuses (after file) content file list told) prints
+Runs holds refuses before after same prints goes_out (Over file (Dump table)) = RunsOverCommands before file (λ content told. AnswersDump refuses (after file) content file table told) prints × LeavesWhatStands before after file
+Runs holds refuses before after same prints goes_out (Over file Views) = RunsOver before file (λ content told. AnswersViews refuses (after file) content file told) prints
+Runs holds refuses before after same prints goes_out (Over file Check) = RunsOver before file (λ content told. AnswersCheck refuses (after file) content file told) prints
+Runs holds refuses before after same prints goes_out (Over file Status) = RunsOver before file (λ content told. AnswersStatus refuses (after file) content file told) prints
+Runs holds refuses before after same prints goes_out (Over file Session) = same × ((told : Told) × IfOk told (λ a. a ≡ refused session_line) × prints told)
 
 -- what is answered to a command before its warehouse is opened
 abbrev pub IsToldBefore : Files → Task → Printed → Type 0
-IsToldBefore holds (Init file policy) a = LacksPolicy (up_to policy_limit holds) policy a
-IsToldBefore holds (Load file kind id path) a = LacksFile (as_input (Batch kind) holds) path a
-IsToldBefore holds (Migrate file id policy) a = LacksFile (as_input Migration holds) policy a
-IsToldBefore holds (Deliver file manifest) a = LacksManifest holds manifest a
-IsToldBefore holds (Plan file kind id path) a = LacksFile (as_input kind holds) path a
-IsToldBefore holds (Explain file kind path) a = LacksInputAsked holds kind path a
-IsToldBefore holds (ExplainInit file policy) a = IsPolicyExplained holds policy a
-IsToldBefore holds (Reports file list) a = LacksList holds list a
-IsToldBefore holds (Queries file list) a = LacksQueries holds list a
-IsToldBefore holds (Session file) a = a ≡ refused session_line
+IsToldBefore holds (Over file (Init policy)) a = LacksPolicy (up_to policy_limit holds) policy a
+IsToldBefore holds (Over file (Load kind id path)) a = LacksFile (as_input (Batch kind) holds) path a
+IsToldBefore holds (Over file (Migrate id policy)) a = LacksFile (as_input Migration holds) policy a
+IsToldBefore holds (Over file (Deliver manifest)) a = LacksManifest holds manifest a
+IsToldBefore holds (Over file (Plan kind id path)) a = LacksFile (as_input kind holds) path a
+IsToldBefore holds (Over file (Explain kind path)) a = LacksInputAsked holds kind path a
+IsToldBefore holds (Over file (ExplainInit policy)) a = IsPolicyExplained holds policy a
+IsToldBefore holds (Over file (Reports list)) a = LacksList holds list a
+IsToldBefore holds (Over file (Queries list)) a = LacksQueries holds list a
+IsToldBefore holds (Over file Session) a = a ≡ refused session_line
 IsToldBefore holds task a = ⊥
 
 -- the name is one that the host can't open: then this holds

@@ -7,7 +7,7 @@ use Rattle.wh_explain.specs.Views.{views_text}
 use Rattle.wh_program.specs.Answer.{done}
 use Rattle.wh_program.specs.Inputs.{Refusals}
 use Rattle.wh_program.specs.Standing.{DatabaseContent, Holds, Rests, Standing}
-use Rattle.wh_program.specs.Warehouse.{Told, AnswersWork}
+use Rattle.wh_program.specs.Warehouse.{Told, Shows, AnswersWork}
 
 -- the views of the policy in force and the format are the answer, and nothing changes
 pub record IsViewed (limits : Limits) (commands : List Accepted) (told : Told) (after : Standing) : Type 0 where
@@ -15,4 +15,4 @@ pub record IsViewed (limits : Limits) (commands : List Accepted) (told : Told) (
   pub tells : IfOk told (λ a. a ≡ done (views_text (current_policy commands) (format_of commands)))
 
 abbrev pub AnswersViews : Refusals → (Standing → Type 0) → DatabaseContent → (file : List ℕ) → Told → Type 0
-AnswersViews refuses stands = AnswersWork refuses stands IsViewed
+AnswersViews refuses stands = AnswersWork refuses stands (Shows IsViewed)

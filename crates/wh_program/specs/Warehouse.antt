@@ -1,6 +1,7 @@
 -- What the words over a warehouse answer, and what they leave of what stood.
 use Rattle.std.specs.Prelude.{◌≡◌, ◌⊎◌, ⊤, ℕ, List, [], ◌∷◌, Option, Some, None, true, false, Result, Ok, Err, IfOk}
 use Rattle.std.specs.declared.alloc.AllocError.{AllocError}
+use Rattle.sqlite.specs.State.{State, HasCleanDisk}
 use Rattle.wh_policy.specs.Policy.{read_policy}
 use Rattle.wh_policy.specs.declared.fault.PolicyFault.{PolicyFault}
 use Rattle.wh_policy.specs.declared.policy.Policy.{Policy}
@@ -11,15 +12,19 @@ use Rattle.wh_rows.specs.Raw.{Stored}
 use Rattle.wh_plan.specs.Edits.{Edits}
 use Rattle.wh_model.specs.Sound.{making_of}
 use Rattle.wh_admission.specs.Admission.{answer, accepted_after}
-use Rattle.wh_engine.specs.Answered.{counts_of, IsPlanOf}
+use Rattle.wh_sql.specs.Present.{is_any_taken}
+use Rattle.wh_engine.specs.Answered.{counts_of, IsAgain, IsPlanOf, KeepsNothing}
 use Rattle.wh_engine.specs.Outcome.{Outcome}
 use Rattle.wh_engine.specs.Opened.{IsNotMade, SessionIs, IsUnopened as UnopenedBy}
 use Rattle.wh_admission.specs.declared.command.Command.{Command}
 use Rattle.wh_batch.specs.declared.kind.CommandKind.{CommandKind}
 use Rattle.wh_batch.specs.declared.kind.CommandKind.TheVariants.{Upgrade}
 use Rattle.wh_admission.specs.declared.command.Reply.{Reply}
+use Rattle.wh_admission.specs.declared.command.Reply.TheVariants as replies
 use Rattle.wh_engine.specs.declared.counts.Counts.{Counts}
+use Rattle.wh_engine.specs.Faults.{BlamesDamage}
 use Rattle.wh_engine.specs.declared.fault.Fault.{Fault}
+use Rattle.wh_engine.specs.declared.fault.Fault.TheVariants as fault
 use Rattle.wh_engine.specs.declared.opening.InitFault.{InitFault}
 use Rattle.wh_engine.specs.declared.opening.InitFault.TheVariants as making
 use Rattle.wh_engine.specs.declared.session.Session.{Session}
@@ -29,7 +34,7 @@ use Rattle.wh_program.specs.Answer.{Printed, done, refused, failed, no_file_line
 use Rattle.wh_program.specs.Inputs.{Files, Refusals, as_input}
 use Rattle.wh_program.specs.Reply.{sent_answer, plan_answer, opening_answer, status_answer, making_answer, made_line}
 use Rattle.wh_program.specs.Run.{GoesOut, out_of_memory}
-use Rattle.wh_program.specs.Standing.{DatabaseContent, Nothing, Holds, Keeps, Standing, Unknown, Rests, LeftAt, left_standing}
+use Rattle.wh_program.specs.Standing.{DatabaseContent, Nothing, Holds, Keeps, Is, Standing, Unknown, Rests, LeftAt, LeavesIt, left_standing, IsAt}
 
 -- an answer, where there is memory for one
 abbrev pub Told : Type 0
@@ -57,16 +62,22 @@ pub record IsUnopened (limits : Limits) (commands : List Accepted) (told : Told)
   pub leaves : LeavesUnopened limits commands why after
   pub tells : IfOk told (λ a. a ≡ opening_answer why)
 
--- What is left of rows that anybody wrote, where the warehouse wasn't opened.
-abbrev pub LeavesUnread : Stored → OpenFault → Standing → Type 0
-LeavesUnread stored (opening.Store cause) after = after ≡ LeftAt (Keeps stored) (Keeps stored)
-LeavesUnread stored why after = after ≡ Rests (Keeps stored)
+-- What is left of what anybody wrote, where no warehouse was opened.
+abbrev pub LeavesUnread : DatabaseContent → OpenFault → Standing → Type 0
+LeavesUnread content (opening.Store cause) after = after ≡ LeftAt content content
+LeavesUnread content why after = after ≡ Rests content
 
 -- They say no warehouse that is opened, and just that is printed.
 pub record IsUnread (stored : Stored) (told : Told) (after : Standing) : Type 0 where
   pub why : OpenFault
   pub unopened : UnopenedBy stored why
-  pub leaves : LeavesUnread stored why after
+  pub leaves : LeavesUnread (Keeps stored) why after
+  pub tells : IfOk told (λ a. a ≡ opening_answer why)
+
+-- A database is no warehouse that is opened, and just that is printed.
+pub record IsUnreadFile (content : DatabaseContent) (told : Told) (after : Standing) : Type 0 where
+  pub why : OpenFault
+  pub leaves : LeavesUnread content why after
   pub tells : IfOk told (λ a. a ≡ opening_answer why)
 
 -- They say a format that is read, limits, and a policy in force.
@@ -75,11 +86,20 @@ pub record IsOpenedBy (stored : Stored) : Type 0 where
   pub says : SessionIs stored session
 
 -- What opens what stands and does this to a warehouse: where there is none, that is the answer, and nothing changed. Over rows that anybody wrote it says whether they
--- are opened, and here nothing of what is done then.
-abbrev pub Opens : (Limits → List Accepted → Told → Standing → Type 0) → DatabaseContent → Told → Standing → Type 0
-Opens does Nothing told after = (after ≡ Rests Nothing) × IfOk told (λ a. a ≡ opening_answer opening.NotAWarehouse)
-Opens does (Holds limits commands) told after = does limits commands told after ⊎ IsUnopened limits commands told after
-Opens does (Keeps stored) told after = (IsOpenedBy stored × (after ≡ Unknown)) ⊎ IsUnread stored told after
+-- are opened; over them, and in a database of any schema, what is done then.
+abbrev pub Opens : (Limits → List Accepted → Told → Standing → Type 0) → (DatabaseContent → Told → Standing → Type 0) → DatabaseContent → Told → Standing → Type 0
+Opens does over Nothing told after = (after ≡ Rests Nothing) × IfOk told (λ a. a ≡ opening_answer opening.NotAWarehouse)
+Opens does over (Holds limits commands) told after = does limits commands told after ⊎ IsUnopened limits commands told after
+Opens does over (Keeps stored) told after = (IsOpenedBy stored × over (Keeps stored) told after) ⊎ IsUnread stored told after
+Opens does over (Is db) told after = over (Is db) told after ⊎ IsUnreadFile (Is db) told after
+
+-- What only looks leaves it, whatever it is.
+abbrev pub LooksAt : DatabaseContent → Told → Standing → Type 0
+LooksAt content told after = LeavesIt content after
+
+-- What opens what stands and looks at it.
+abbrev pub Shows : (Limits → List Accepted → Told → Standing → Type 0) → DatabaseContent → Told → Standing → Type 0
+Shows does = Opens does LooksAt
 
 -- ---- load, migrate and upgrade
 
@@ -92,6 +112,33 @@ pub record IsReplied (c : Command) (limits : Limits) (commands : List Accepted) 
   pub reply : Result Reply Fault
   pub leaves : LeavesReplied limits commands c reply after
   pub tells : printed told ≡ sent_answer c.id reply
+
+-- Where nothing was accepted, and the store refused no call, all is as it was; else nothing is said.
+abbrev pub LeavesRefused : DatabaseContent → Result Reply Fault → Standing → Type 0
+LeavesRefused content (Ok (replies.Accepted receipt)) after = after ≡ Unknown
+LeavesRefused content (Ok (replies.Already receipt)) after = after ≡ Rests content
+LeavesRefused content (Err (fault.Store cause)) after = after ≡ Unknown
+LeavesRefused content (Err why) after = after ≡ Rests content
+
+-- Of rows that anybody wrote the table that is blamed stores a damaged one, and only an undamaged one is taken for the receipt of a command that came before.
+abbrev pub IsTrueOf : DatabaseContent → Command → Result Reply Fault → Type 0
+IsTrueOf (Keeps stored) c reply = BlamesDamage stored reply × IsAgain stored c reply
+IsTrueOf content c reply = ⊤
+
+-- So it is of what stood, and that stands still where nothing was kept.
+abbrev pub RepliesOver : State → State → Command → Result Reply Fault → Type 0
+RepliesOver old new c reply = HasCleanDisk new → (content : DatabaseContent) → IsAt content old → (KeepsNothing reply → IsAt content new) × IsTrueOf content c reply
+
+-- The engine replied to the command over what anybody wrote, and just that is printed.
+pub record IsRepliedOver (c : Command) (content : DatabaseContent) (told : Told) (after : Standing) : Type 0 where
+  pub reply : Result Reply Fault
+  pub leaves : LeavesRefused content reply after
+  pub is_true : IsTrueOf content c reply
+  pub tells : printed told ≡ sent_answer c.id reply
+
+-- What opens what stands and sends it the command.
+abbrev pub SendsTo : Command → DatabaseContent → Told → Standing → Type 0
+SendsTo c = Opens (IsReplied c) (IsRepliedOver c)
 
 -- ---- plan
 
@@ -142,9 +189,10 @@ pub record IsNotEmpty (bytes : List ℕ) (content : DatabaseContent) (told : Tol
   pub same : after ≡ Rests content
   pub tells : printed told ≡ making_answer why
 
--- a making in what stands
+-- a making in what stands; in a database of another schema it is said where a name of the tables is taken
 abbrev pub Makes : List ℕ → DatabaseContent → Told → Standing → Type 0
 Makes bytes Nothing told after = IsMade bytes told after ⊎ IsUnmade bytes told after
+Makes bytes (Is db) told after = ((is_any_taken db.schema ≡ false) × (after ≡ Unknown)) ⊎ IsNotEmpty bytes (Is db) told after
 Makes bytes content told after = IsNotEmpty bytes content told after
 
 -- ---- a word
@@ -186,19 +234,19 @@ AnswersWith holds refuses stands does content file path told = IsTriedWith holds
 
 -- a load of the batch of a file, or a migration to its policy
 abbrev pub Sends : CommandKind → (id bytes : List ℕ) → DatabaseContent → Told → Standing → Type 0
-Sends kind id bytes = Opens (IsReplied (record { id = id; kind = kind; bytes = bytes }))
+Sends kind id bytes = SendsTo (record { id = id; kind = kind; bytes = bytes })
 
 -- a plan of one
 abbrev pub Plans : CommandKind → (id bytes : List ℕ) → DatabaseContent → Told → Standing → Type 0
-Plans kind id bytes = Opens (IsForetold (record { id = id; kind = kind; bytes = bytes }))
+Plans kind id bytes = Shows (IsForetold (record { id = id; kind = kind; bytes = bytes }))
 
--- a word that works on a warehouse that is opened
-abbrev pub AnswersWork : Refusals → (Standing → Type 0) → (Limits → List Accepted → Told → Standing → Type 0) → DatabaseContent → (file : List ℕ) → Told → Type 0
-AnswersWork refuses stands does content file told = IsTried stands (Opens does content) told ⊎ IsNotConnected refuses stands content file told
+-- a word that works on what stands
+abbrev pub AnswersWork : Refusals → (Standing → Type 0) → (DatabaseContent → Told → Standing → Type 0) → DatabaseContent → (file : List ℕ) → Told → Type 0
+AnswersWork refuses stands does content file told = IsTried stands (does content) told ⊎ IsNotConnected refuses stands content file told
 
 -- a command that was sent to the warehouse in a file
 abbrev pub AnswersCommand : Refusals → (Standing → Type 0) → DatabaseContent → (file : List ℕ) → Command → Told → Type 0
-AnswersCommand refuses stands content file c told = AnswersWork refuses stands (IsReplied c) content file told
+AnswersCommand refuses stands content file c told = AnswersWork refuses stands (SendsTo c) content file told
 
 -- an upgrade, which has no input
 abbrev pub AnswersUpgrade : Refusals → (Standing → Type 0) → DatabaseContent → (file id : List ℕ) → Told → Type 0
@@ -246,4 +294,4 @@ IsJudgedFirst holds same path told =
     ⊎ (same × IfOk told (λ a. holds path None × (a ≡ failed (no_file_line path))))
 
 abbrev pub AnswersStatus : Refusals → (Standing → Type 0) → DatabaseContent → (file : List ℕ) → Told → Type 0
-AnswersStatus refuses stands = AnswersWork refuses stands IsCounted
+AnswersStatus refuses stands = AnswersWork refuses stands (Shows IsCounted)

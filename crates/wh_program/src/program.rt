@@ -4,87 +4,25 @@ ghost use Rattle.std.specs.Prelude.{◌≡◌, ◌≢◌, ◌⊎◌, ℕ, List, 
 ghost use Rattle.std.specs.IoError.{error_kind};
 ghost use Rattle.std.specs.declared.io.ErrorKind.TheVariants.{OutOfMemory};
 ghost use Rattle.clap.specs.Words.{Kinds};
-ghost use Rattle.wh_program.specs.Answer.{Printed, status_code, wrong_words, no_text_line};
-ghost use Rattle.wh_words.specs.CommandLine.{CommandLine, Says};
-ghost use Rattle.wh_words.specs.Request.{IsDeclined, asked_in, task_in};
+ghost use Rattle.wh_program.specs.Answer.{Printed, wrong_words, no_text_line};
+ghost use Rattle.wh_words.specs.CommandLine.{CommandLine, Says, task_of};
+ghost use Rattle.wh_words.specs.Request.{IsDeclined, asked_in};
+ghost use Rattle.wh_words.specs.Task.{Task as TaskAsked, warehouse_of};
 ghost use Rattle.wh_program.specs.Run.{Declines, GoesOut, Prints, out_of_memory};
-ghost use Rattle.wh_words.specs.Task.{Task as TaskAsked, asked_by, faults_in, task_of};
-ghost use Rattle.wh_program.specs.Tasks.{Runs, RunsShut, SparesOthers, warehouse_of};
+ghost use Rattle.wh_words.specs.Asked.{asked_by, faults_in};
+ghost use Rattle.wh_program.specs.Tasks.{Runs, RunsShut, SparesOthers};
 ghost use Rattle.wh_program.specs.Warehouse.{printed};
 
 use crate::host::Host;
 use crate::lines::answer::Status;
-use crate::lines::{MEMORY_LINE, NO_TEXT_LINE, SESSION_LINE};
-use crate::output::{print, print_answer, print_usage};
-use crate::visits::delivery::deliver;
-use crate::visits::dump::print_dump;
-use crate::visits::explain::{explain, explain_init};
-use crate::visits::queries::queries;
-use crate::visits::query::visit_query;
-use crate::visits::records::records;
-use crate::visits::report::visit_report;
-use crate::visits::reports::reports;
-use crate::visits::trial::trial;
-use crate::visits::verdict::check;
-use crate::visits::views::views;
-use crate::visits::warehouse::{init, plan, send, status, upgrade};
+use crate::lines::{MEMORY_LINE, NO_TEXT_LINE};
+use crate::output::{print, print_usage};
+use crate::visits::run_task;
 use std::alloc::Global;
 use std::convert::AsStr;
 use std::io;
 use std::io::Write;
-use wh_batch::CommandKind;
-use wh_words::{Request, Task, parse};
-
-/// Does what the words of a command ask for, and prints the answer.
-fn run_task<H: Host, W: Write>(alloc: Global, task: Task, host: &mut H, out: &mut W) -> Status
-    ensures runs { Runs (H.holds host.old) (H.refuses host.old) (H.stores host.old) (H.stores host.new) (host.new ≡ host.old) (λ told. Prints (W.contents out.old) (W.contents out.new) (status_code result) (printed told)) (λ cut told. GoesOut cut (W.contents out.old) (W.contents out.new) (status_code result) (printed told)) (task_in task.entry) }
-    ensures others { SparesOthers (H.stores host.old) (H.stores host.new) (warehouse_of (task_in task.entry)) }
-    ensures shut { RunsShut (H.shut host.old) (H.holds host.old) (host.new ≡ host.old) (λ told. Prints (W.contents out.old) (W.contents out.new) (status_code result) (printed told)) (task_in task.entry) }
-{
-    match task {
-        Task::Trial { dim, path, policy } => {
-            print_answer(out, trial(alloc, dim, path, policy, host))
-        }
-        Task::Init { file, policy } => print_answer(out, init(alloc, file, policy, host)),
-        Task::Load {
-            file,
-            kind,
-            id,
-            path,
-        } => {
-            let kind = CommandKind::Batch(kind);
-            print_answer(out, send(alloc, file, kind, id, path, host))
-        }
-        Task::Migrate { file, id, policy } => {
-            let kind = CommandKind::Migration;
-            print_answer(out, send(alloc, file, kind, id, policy, host))
-        }
-        Task::Upgrade { file, id } => print_answer(out, upgrade(alloc, file, id, host)),
-        Task::Deliver { file, manifest } => deliver(alloc, file, manifest, host, out),
-        Task::Plan {
-            file,
-            kind,
-            id,
-            path,
-        } => print_answer(out, plan(alloc, file, kind, id, path, host)),
-        Task::Explain { file, kind, path } => {
-            print_answer(out, explain(alloc, file, kind, path, host))
-        }
-        Task::ExplainInit { policy, .. } => print_answer(out, explain_init(alloc, policy, host)),
-        Task::Records { file, dim, from } => {
-            print_answer(out, records(alloc, file, dim, from, host))
-        }
-        Task::Query { file, asked } => print_answer(out, visit_query(alloc, file, asked, host)),
-        Task::Report { file, asked } => print_answer(out, visit_report(alloc, file, asked, host)),
-        Task::Reports { file, list } => print_answer(out, reports(alloc, file, list, host)),
-        Task::Queries { file, list } => print_answer(out, queries(alloc, file, list, host)),
-        Task::Dump { file, table } => print_dump(alloc, file, table, host, out),
-        Task::Views { file } => print_answer(out, views(alloc, file, host)),
-        Task::Check { file } => print_answer(out, check(alloc, file, host)),
-        Task::Status { file } => print_answer(out, status(alloc, file, host)),
-        Task::Session { .. } => print(out, Status::Refused, SESSION_LINE),
-    }
-}
+use wh_words::{Request, parse};
 
 /// Answers a request.
 fn run_request<H: Host, W: Write>(alloc: Global, request: Request, host: &mut H, out: &mut W) -> u8

@@ -63,15 +63,15 @@ pub record IsAsItWas (old new : State) : Type 0 where
   pub mode : new.in_transaction ≡ old.in_transaction
   pub marks : new.marks ≡ old.marks
 
--- What a call that looks leaves of any database: of whatever schema, whoever wrote its rows. Where the disk returned what was written until now, it did so
--- before; where this holds, the connection is as it was; and a crash leaves nothing that it wouldn't have left before.
+-- What a call that looks leaves of any database, whatever its schema is and whoever wrote its rows. The connection is as it was where the call was calm, and a
+-- crash leaves only what it could have left before the call. Both are said of a disk that has returned what was written, as then it had before.
 pub record Spares (old new : State) (calm : Type 0) : Type 0 where
   pub clean : HasCleanDisk new → HasCleanDisk old
   pub same : HasCleanDisk new → calm → IsAsItWas old new
   pub crash : HasCleanDisk new → (trees : Trees) → new.may_leave trees → old.may_leave trees
 
--- So does one that reads rows, unless the store refused it. Where tables were at rest, it met no row out of its type; of whatever was stored, the table
--- that it names as damaged stores such a row.
+-- A call that reads rows is calm unless the store refused it. In tables at rest it meets no row out of its type. Whatever rows are stored, a table that it names
+-- as damaged has such a row.
 pub record ReadsOnly {A : Type 0} (old new : State) (result : Result A ReadFault) : Type 0 where
   pub spares : Spares old new (IsServed result)
   pub sound : HasCleanDisk new → (t : Tables) → IsAtRest (Some t) old → IsUndamaged result

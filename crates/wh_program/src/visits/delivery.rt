@@ -9,12 +9,12 @@ ghost use Rattle.wh_engine.specs.declared.fault.Fault.{Fault as Faults};
 ghost use Rattle.wh_admission.specs.declared.command.Reply.{Reply as Replies};
 ghost use Rattle.wh_store.specs.Reads.{state_of};
 ghost use Rattle.wh_program.specs.Answer.{status_code};
-ghost use Rattle.wh_program.specs.Delivery.{AreCommandsOf, Delivers, LacksInput, AnswersSent, AnswersListed, AnswersRead, AnswersDelivery, LacksEntry, LacksListed, LacksManifest};
+ghost use Rattle.wh_program.specs.Delivery.{AreCommandsOf, Delivers, DeliversTo, IsDeliveredOver, LacksInput, AnswersSent, AnswersListed, AnswersRead, AnswersDelivery, LacksEntry, LacksListed, LacksManifest};
 ghost use Rattle.wh_program.specs.Reply.{sent_answer};
 ghost use Rattle.wh_program.specs.Room.{longest_answer, longest_reply};
 ghost use Rattle.wh_program.specs.Run.{GoesOut, Prints};
-ghost use Rattle.wh_program.specs.Standing.{DatabaseContent, Rests, Standing, Stands};
-ghost use Rattle.wh_program.specs.Warehouse.{Told, Opens, PrintsAnswer, printed, PrintsShut, IsNoFile, IsNoFileOr};
+ghost use Rattle.wh_program.specs.Standing.{DatabaseContent, IsAt, Rests, Standing, Stands};
+ghost use Rattle.wh_program.specs.Warehouse.{Told, PrintsAnswer, RepliesOver, printed, PrintsShut, IsNoFile, IsNoFileOr};
 ghost use Rattle.wh_program.specs.Tasks.{SparesOthers};
 
 use crate::host::{Host, HostError, Visitor, manifest_file_of};
@@ -60,7 +60,8 @@ fn send_next<S: Alter, W: Write>(
 ) -> Status
     requires { longest_answer command.now.id ≤ vec_capacity room.old }
     ensures sent { (reply : Result Replies Faults) × Prints (W.contents out.old) (W.contents out.new) (status_code result) (sent_answer command.now.id reply)
-        × WhenReady S.Store engine.old engine.new (λ limits accepted. IsAnswered limits accepted command.now reply) }
+        × WhenReady S.Store engine.old engine.new (λ limits accepted. IsAnswered limits accepted command.now reply)
+        × RepliesOver (state_of S.Store engine.old.tables) (state_of S.Store engine.new.tables) command.now reply }
     ensures clean { HasCleanDisk (state_of S.Store engine.new.tables) → HasCleanDisk (state_of S.Store engine.old.tables) }
     ensures room { vec_capacity room.old ≤ vec_capacity room.new }
 {
@@ -78,7 +79,9 @@ fn send_each<S: Alter, W: Write>(
 ) -> Status
     requires { longest_reply commands.now ≤ vec_capacity room }
     ensures delivered { (cut : Option ℕ) × (told : Told) × GoesOut cut (W.contents out.old) (W.contents out.new) (status_code result) (printed told)
-        × WhenReady S.Store engine.old engine.new (λ limits accepted session s. (after : Standing) × Delivers cut commands.now limits accepted told after × Stands after s) }
+        × WhenReady S.Store engine.old engine.new (λ limits accepted session s. (after : Standing) × Delivers cut commands.now limits accepted told after × Stands after s)
+        × (HasCleanDisk (state_of S.Store engine.new.tables) → (content : DatabaseContent) → IsAt content (state_of S.Store engine.old.tables)
+        → (after : Standing) × IsDeliveredOver commands.now content told after × Stands after (state_of S.Store engine.new.tables)) }
     ensures clean { HasCleanDisk (state_of S.Store engine.new.tables) → HasCleanDisk (state_of S.Store engine.old.tables) }
 {
     let mut status = Status::Done;
@@ -104,7 +107,7 @@ struct Delivering {
 impl Visitor for Delivering {
     type Output = Status;
 
-    ghost promises = { λ delivering content status old new after. PrintsAnswer (λ cut told. Opens (Delivers cut delivering.commands.items) content told after) old new (status_code status) };
+    ghost promises = { λ delivering content status old new after. PrintsAnswer (λ cut told. DeliversTo cut delivering.commands.items content told after) old new (status_code status) };
 
     fn visit<T: Alter + Drop, W: Write>(
         self,

@@ -2,10 +2,11 @@
 
 ghost use Rattle.std.specs.Prelude.{◌≡◌, Some, IfOk};
 ghost use Rattle.wh_engine.specs.Previewed.{IsPreviewed};
-ghost use Rattle.wh_engine.specs.Scanned.{EngineReadsThrough, WasClean, WhenReady};
+ghost use Rattle.wh_engine.specs.Scanned.{EngineReadsThrough, WhenReady};
+ghost use Rattle.wh_program.specs.Looking.{Looks};
 ghost use Rattle.wh_program.specs.Explained.{IsExplained, IsDescribed, Explains, AnswersExplanation, IsPolicyExplained, LacksInputAsked};
 ghost use Rattle.wh_program.specs.Inputs.{as_input};
-ghost use Rattle.wh_words.specs.Request.{optional_text};
+ghost use Rattle.wh_words.specs.Given.{optional_text};
 ghost use Rattle.wh_program.specs.Standing.{DatabaseContent, Rests};
 ghost use Rattle.wh_program.specs.Warehouse.{AnswersWith, AnswersShut, IsNoFileOr, LacksFile};
 ghost use Rattle.wh_program.specs.Tasks.{SparesOthers};
@@ -121,7 +122,7 @@ fn traced<S: Alter>(
     kind: CommandKind,
     bytes: &[u8],
 ) -> (Result<Preview, Fault>, Option<TracedLines>, Option<LeftOut>)
-    ensures clean { WasClean S.Store engine.old.tables engine.new.tables }
+    ensures looks { Looks S.Store engine.old engine.new }
     ensures previewed { WhenReady S.Store engine.old engine.new (λ limits commands. IsPreviewed limits commands kind bytes.now result.0) }
 {
     match engine.preview(alloc, kind, bytes) {

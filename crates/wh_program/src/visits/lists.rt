@@ -2,7 +2,8 @@
 
 ghost use Rattle.std.specs.Prelude.{◌≡◌, ◌≢◌, List, IfOk, map};
 ghost use Rattle.wh_history.specs.Accepted.{Accepted};
-ghost use Rattle.wh_engine.specs.Scanned.{WasClean, WhenReady};
+ghost use Rattle.wh_engine.specs.Scanned.{WhenReady};
+ghost use Rattle.wh_program.specs.Looking.{Looks};
 ghost use Rattle.wh_program.specs.Answer.{Printed};
 ghost use Rattle.wh_program.specs.Lists.{IsListed};
 ghost use Rattle.wh_program.specs.ReportsRead.{IsReadFor, AreReadFor};
@@ -21,7 +22,7 @@ pub trait Question: Drop {
 
     /// Its answer, over a warehouse that is open.
     fn answer<S: Alter>(&self, alloc: Global, engine: &mut Engine<S>) -> Result<Answer, AllocError>
-        ensures clean { WasClean S.Store engine.old.tables engine.new.tables }
+        ensures looks { Looks S.Store engine.old engine.new }
         ensures reported { WhenReady S.Store engine.old engine.new (λ limits commands. IsReadFor (answered self.now commands) result limits commands) }
         // Over accepted commands none fails.
         ensures unfailed { (commands : List Accepted) → (answered self.now commands).status ≢ 3 };
@@ -33,7 +34,7 @@ fn listed_answers<Q: Question, S: Alter>(
     engine: &mut Engine<S>,
     listed: &[Q],
 ) -> Result<Vec<Answer>, AllocError>
-    ensures clean { WasClean S.Store engine.old.tables engine.new.tables }
+    ensures looks { Looks S.Store engine.old engine.new }
     ensures reported { WhenReady S.Store engine.old engine.new (λ limits commands. AreReadFor (map Q.answered listed.now) (λ answers. IfOk result (λ told. told.items ≡ answers)) limits commands) }
 {
     let mut answers = Vec::with_capacity(alloc, listed.len())?;

@@ -6,8 +6,8 @@ ghost use Rattle.wh_history.specs.Accepted.{Accepted};
 ghost use Rattle.wh_history.specs.Tables.{Limits};
 ghost use Rattle.wh_engine.specs.Answered.{IsReady};
 ghost use Rattle.wh_store.specs.Reads.{state_of};
-ghost use Rattle.wh_program.specs.Standing.{DatabaseContent, Rests, Standing, Stands};
-ghost use Rattle.wh_program.specs.Warehouse.{Told, Opens, AnswersWork, AnswersShut, IsNoFile};
+ghost use Rattle.wh_program.specs.Standing.{DatabaseContent, IsAt, Rests, Standing, Stands};
+ghost use Rattle.wh_program.specs.Warehouse.{Told, LooksAt, Opens, AnswersWork, AnswersShut, IsNoFile};
 ghost use Rattle.wh_program.specs.Tasks.{SparesOthers};
 
 use crate::host::{Host, Visitor};
@@ -25,10 +25,15 @@ pub trait Work: Drop {
     /// Of these accepted commands, what is answered, and what then stands.
     ghost does: { Self → Limits → List Accepted → Told → Standing → Type 0 };
 
+    /// Of what anybody wrote, what is answered, and what then stands. Work that looks leaves it.
+    ghost over: { Self → DatabaseContent → Told → Standing → Type 0 } = { λ _. LooksAt };
+
     fn work<S: Alter>(self, alloc: Global, engine: &mut Engine<S>) -> Result<Answer, AllocError>
         ensures clean { HasCleanDisk (state_of S.Store engine.new.tables) → HasCleanDisk (state_of S.Store engine.old.tables) }
         ensures done { HasCleanDisk (state_of S.Store engine.new.tables) → (limits : Limits) (commands : List Accepted) → IsReady limits commands engine.old.session (state_of S.Store engine.old.tables)
-            → (after : Standing) × does self limits commands result after × Stands after (state_of S.Store engine.new.tables) };
+            → (after : Standing) × does self limits commands result after × Stands after (state_of S.Store engine.new.tables) }
+        ensures over { HasCleanDisk (state_of S.Store engine.new.tables) → (content : DatabaseContent) → IsAt content (state_of S.Store engine.old.tables)
+            → (after : Standing) × over self content result after × Stands after (state_of S.Store engine.new.tables) };
 }
 
 /// Whether it was the store that refused an opening.
@@ -45,7 +50,7 @@ struct OnOpened<K: Work> {
 impl<K: Work> Visitor for OnOpened<K> {
     type Output = Result<Answer, AllocError>;
 
-    ghost promises = { λ visitor content told old new after. Opens (K.does visitor.work) content told after };
+    ghost promises = { λ visitor content told old new after. Opens (K.does visitor.work) (K.over visitor.work) content told after };
 
     fn visit<T: Alter + Drop, W: Write>(
         self,
@@ -74,7 +79,7 @@ pub fn work_on<H: Host, K: Work>(
     work: K,
     host: &mut H,
 ) -> Result<Answer, AllocError>
-    ensures answers { (content : DatabaseContent) → H.stores host.old file.now (Rests content) → AnswersWork (H.refuses host.old) (H.stores host.new file.now) (K.does work) content file.now result }
+    ensures answers { (content : DatabaseContent) → H.stores host.old file.now (Rests content) → AnswersWork (H.refuses host.old) (H.stores host.new file.now) (Opens (K.does work) (K.over work)) content file.now result }
     ensures others { SparesOthers (H.stores host.old) (H.stores host.new) (Some file.now) }
     ensures shut { H.shut host.old file.now → AnswersShut (host.new ≡ host.old) (IsNoFile file.now) result }
 {

@@ -6,7 +6,7 @@ ghost use Rattle.wh_program.specs.Readings.{query_answered};
 ghost use Rattle.wh_program.specs.Standing.{DatabaseContent, Rests};
 ghost use Rattle.wh_program.specs.Tasks.{SparesOthers};
 ghost use Rattle.wh_program.specs.Warehouse.{AnswersShut, IsNoFileOr};
-ghost use Rattle.wh_words.specs.Request.{query_words};
+ghost use Rattle.wh_words.specs.Task.{query_words};
 
 use crate::host::{Host, manifest_file_of};
 use crate::lines::answer::Answer;

@@ -2,10 +2,11 @@
 
 ghost use Rattle.std.specs.Prelude.{◌≡◌, List, Some};
 ghost use Rattle.wh_admission.specs.Admission.{current_policy};
-ghost use Rattle.wh_engine.specs.Scanned.{WasClean, WhenReady};
+ghost use Rattle.wh_engine.specs.Scanned.{WhenReady};
+ghost use Rattle.wh_program.specs.Looking.{Looks};
 ghost use Rattle.wh_program.specs.Readings.{AnswersQuery, IsAnsweredBy, form_asked, query_answered};
 ghost use Rattle.wh_program.specs.ReportsRead.{IsReadFor};
-ghost use Rattle.wh_words.specs.Request.{query_words};
+ghost use Rattle.wh_words.specs.Task.{query_words};
 ghost use Rattle.wh_program.specs.Standing.{DatabaseContent, Rests};
 ghost use Rattle.wh_program.specs.Tasks.{SparesOthers};
 ghost use Rattle.wh_program.specs.Warehouse.{AnswersShut, IsNoFile};
@@ -34,7 +35,7 @@ pub fn query_answer<S: Alter>(
     engine: &mut Engine<S>,
     asked: &AskedQuery,
 ) -> Result<Answer, AllocError>
-    ensures clean { WasClean S.Store engine.old.tables engine.new.tables }
+    ensures looks { Looks S.Store engine.old engine.new }
     ensures answered { WhenReady S.Store engine.old engine.new (λ limits commands. IsReadFor (query_answered (query_words asked.now) commands) result limits commands) }
 {
     let policy = engine.policy();

@@ -1,7 +1,8 @@
 //! The records that carry the members of a warehouse in a file to another.
 
 ghost use Rattle.std.specs.Prelude.{◌≡◌, List, Some};
-ghost use Rattle.wh_engine.specs.Scanned.{WasClean, WhenReady};
+ghost use Rattle.wh_engine.specs.Scanned.{WhenReady};
+ghost use Rattle.wh_program.specs.Looking.{Looks};
 ghost use Rattle.wh_program.specs.Readings.{AnswersRecords, IsAnsweredBy, records_answered};
 ghost use Rattle.wh_program.specs.ReportsRead.{IsReadFor};
 ghost use Rattle.wh_program.specs.Standing.{DatabaseContent, Rests};
@@ -24,7 +25,7 @@ fn batch_answer<S: Alter>(
     dim: Dim,
     from: u32,
 ) -> Result<Answer, AllocError>
-    ensures clean { WasClean S.Store engine.old.tables engine.new.tables }
+    ensures looks { Looks S.Store engine.old engine.new }
     ensures answered { WhenReady S.Store engine.old engine.new (λ limits commands. IsReadFor (records_answered dim from commands) result limits commands) }
 {
     records_answer(alloc, engine.carried_batch(alloc, dim, from as usize))

@@ -2,10 +2,11 @@
 
 ghost use Rattle.std.specs.Prelude.{◌≡◌, List, Some};
 ghost use Rattle.wh_admission.specs.Admission.{current_policy};
-ghost use Rattle.wh_engine.specs.Scanned.{WasClean, WhenReady};
+ghost use Rattle.wh_engine.specs.Scanned.{WhenReady};
+ghost use Rattle.wh_program.specs.Looking.{Looks};
 ghost use Rattle.wh_program.specs.Readings.{IsReported, AnswersReport, asked_answer, asked_under};
 ghost use Rattle.wh_program.specs.ReportsRead.{IsReadFor};
-ghost use Rattle.wh_words.specs.Request.{report_words};
+ghost use Rattle.wh_words.specs.Task.{report_words};
 ghost use Rattle.wh_program.specs.Standing.{DatabaseContent, Rests};
 ghost use Rattle.wh_program.specs.Tasks.{SparesOthers};
 ghost use Rattle.wh_program.specs.Warehouse.{AnswersShut, IsNoFile};
@@ -27,7 +28,7 @@ pub fn asked_answer<S: Alter>(
     engine: &mut Engine<S>,
     asked: &AskedReport,
 ) -> Result<Answer, AllocError>
-    ensures clean { WasClean S.Store engine.old.tables engine.new.tables }
+    ensures looks { Looks S.Store engine.old engine.new }
     ensures reported { WhenReady S.Store engine.old engine.new (λ limits commands. IsReadFor (asked_answer commands (asked_under (current_policy commands) (report_words asked.now))) result limits commands) }
 {
     let policy = engine.policy();

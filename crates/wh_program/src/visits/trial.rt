@@ -3,7 +3,7 @@
 ghost use Rattle.std.specs.Prelude.{◌≡◌, Some, None, IfOk};
 ghost use Rattle.wh_policy.specs.Policy.{read_policy};
 ghost use Rattle.wh_program.specs.Answer.{table_answer, trial_rows, answer_under, AnswersTrial};
-ghost use Rattle.wh_words.specs.Request.{optional_text};
+ghost use Rattle.wh_words.specs.Given.{optional_text};
 
 use crate::host::{Host, file_of};
 use crate::lines::answer::{Answer, Status};

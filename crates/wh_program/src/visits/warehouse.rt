@@ -5,7 +5,7 @@ ghost use Rattle.wh_program.specs.Answer.{failed, no_file_line};
 ghost use Rattle.wh_program.specs.Inputs.{up_to, policy_limit, as_input};
 ghost use Rattle.wh_program.specs.Room.{longest_answer};
 ghost use Rattle.wh_program.specs.Standing.{DatabaseContent, Standing, Rests};
-ghost use Rattle.wh_program.specs.Warehouse.{IsReplied, IsForetold, IsCounted, IsCommandOf, Makes, Sends, Plans, AnswersWith, AnswersCommand, AnswersUpgrade, AnswersMaking, AnswersStatus, IsJudgedFirst, AnswersShut, IsNoFile, IsNoFileOr, LacksFile, LacksPolicy};
+ghost use Rattle.wh_program.specs.Warehouse.{IsReplied, IsRepliedOver, IsForetold, IsCounted, IsCommandOf, Makes, Sends, Plans, AnswersWith, AnswersCommand, AnswersUpgrade, AnswersMaking, AnswersStatus, IsJudgedFirst, AnswersShut, IsNoFile, IsNoFileOr, LacksFile, LacksPolicy};
 ghost use Rattle.wh_program.specs.declared.host.HostError.TheVariants.{NoFile};
 ghost use Rattle.wh_program.specs.Tasks.{SparesOthers};
 
@@ -74,6 +74,8 @@ struct Sending {
 impl Work for Sending {
     // Of one with room for that line.
     ghost does = { λ sending limits commands told after. longest_answer sending.command.id ≤ vec_capacity sending.room → IsReplied sending.command limits commands told after };
+
+    ghost over = { λ sending content told after. longest_answer sending.command.id ≤ vec_capacity sending.room → IsRepliedOver sending.command content told after };
 
     fn work<S: Alter>(self, alloc: Global, engine: &mut Engine<S>) -> Result<Answer, AllocError> {
         let reply = engine.apply(alloc, &self.command);

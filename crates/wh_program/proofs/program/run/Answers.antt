@@ -1,8 +1,9 @@
 use Rattle.std.proofs.Common.{◌≡◌, ◌∙◌, refl, inl, inr, Err, Some, ap, map, subst, sym}
 use Rattle.wh_words.specs.Request.{IsReadAs}
 use Rattle.wh_program.specs.Run.{GoesOut, Prints, out_of_memory}
-use Rattle.wh_words.specs.Task.{faults_in}
-use Rattle.wh_program.specs.Tasks.{IsToldBefore, warehouse_of}
+use Rattle.wh_words.specs.Asked.{faults_in}
+use Rattle.wh_program.specs.Tasks.{IsToldBefore}
+use Rattle.wh_words.specs.Task.{warehouse_of}
 use Rattle.wh_program.specs.Warehouse.{IsNoFileOr, PrintsShut, Told, printed}
 use Rattle.wh_program.proofs.RunLemmas.{is_no_usage, not_run, parted, shut_all, spares_all}
 use Rattle.wh_program.proofs.program.run.Goals as goal

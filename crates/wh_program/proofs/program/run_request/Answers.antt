@@ -1,6 +1,7 @@
 use Rattle.std.proofs.Common.{◌≡◌, Some, Ok, refl, inl, inr, subst}
 use Rattle.wh_program.specs.Answer.{done, wrong_words}
-use Rattle.wh_words.specs.Request.{IsDeclined, asked_in, task_in}
+use Rattle.wh_words.specs.Request.{IsDeclined, asked_in}
+use Rattle.wh_words.specs.Task.{task_in}
 use Rattle.wh_program.proofs.program.run_request.Goals as goal
 
 pub returns-in-Task-clause-runs : goal.returns-in-Task-clause-runs

@@ -40,9 +40,9 @@ loop-command-preserved g c =
       enough = le_trans c.loop-command.invariant.enough c.send_next.ensures.room;
       sent = elim c.match-send_next.branch [
         | in-Done w ↦ subst₂ (λ list ending. AreSent list first last s0 s2 old new ending) next (sym w.status-is)
-            (next_done (take i sent) command first at last s0 s1 s2 old mid new status told reply.0 c.loop-command.invariant.sent reply.1 c.send_next.ensures.clean reply.2 w.in-Done.is)
+            (next_done (take i sent) command first at last s0 s1 s2 old mid new status told reply.0 c.loop-command.invariant.sent reply.1 c.send_next.ensures.clean reply.2 reply.3 w.in-Done.is)
         | in-Refused w ↦ subst₂ (λ list ending. AreSent list first last s0 s2 old new ending) next (sym w.status-is)
-            (next_refused (take i sent) command first at last s0 s1 s2 old mid new status told reply.0 c.loop-command.invariant.sent reply.1 c.send_next.ensures.clean reply.2 w.in-Refused.is)
+            (next_refused (take i sent) command first at last s0 s1 s2 old mid new status told reply.0 c.loop-command.invariant.sent reply.1 c.send_next.ensures.clean reply.2 reply.3 w.in-Refused.is)
       ];
     }
 
@@ -62,7 +62,7 @@ returns-in-Failed-clause-delivered g c =
     let reply = c.send_next.ensures.sent in
     subst₂ (λ list ending. IsOut list first s0 s2 old new (status_code ending)) (sym (parted_at sent i command c.loop-command-test.true c.command-item.is)) c.in-Failed.is
     (ended_out (take i sent) command first c.loop-command.engine.session c.send_next.new.engine.session s0 s1 s2 old mid new c.loop-command.status told reply.0 c.loop-command.invariant.sent reply.1
-    c.send_next.ensures.clean reply.2 (drop (i + 1) sent) c.in-Failed.is)
+    c.send_next.ensures.clean reply.2 reply.3 (drop (i + 1) sent) c.in-Failed.is)
 
 pub returns-clause-delivered : goal.returns-clause-delivered
 returns-clause-delivered g c =

@@ -6,6 +6,7 @@ use Rattle.wh_program.specs.Answer.{status_code, done}
 use Rattle.wh_report.specs.Dump.{lines_of_table}
 use Rattle.wh_report.specs.Output.{of_warehouse}
 use Rattle.wh_store.specs.Reads.{state_of}
+use Rattle.wh_program.proofs.LookingLemmas.{through_looks}
 use Rattle.wh_program.proofs.ReadingLemmas.{left, stopped-dump}
 use Rattle.wh_program.proofs.visits.dump.print_table.Goals as goal
 
@@ -24,3 +25,9 @@ returns-in-Err-clause-dumped g c = λ clean limits commands ready.
     let said = stopped-dump (lines_of_table c.args.table at.tables) c.in-Err.fault (g.W.Write.contents c.args.out.now) (g.W.Write.contents c.dump.new.out) (g.W.Write.contents c.print_stop.new.out) (status_code c.print_stop.result)
     c.in-Err.ensures.kinds (c.in-Err.ensures.out clean at.tables (ap (is_there c.args.table) (at.are.format ∙ sym (ap (λ (s : Session). s.format) ready.session_is))) at.rests) c.print_stop.ensures in
     (stays.0, (said.0, record { tables = at.tables; are = at.are; read = read; leaves = stays.1; tells = said.1 }, said.2), stays.2)
+
+pub returns-in-Ok-clause-looks : goal.returns-in-Ok-clause-looks
+returns-in-Ok-clause-looks g c = through_looks c.dump.ensures.reads
+
+pub returns-in-Err-clause-looks : goal.returns-in-Err-clause-looks
+returns-in-Err-clause-looks g c = through_looks c.dump.ensures.reads

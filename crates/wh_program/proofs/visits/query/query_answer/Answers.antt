@@ -5,7 +5,8 @@ use Rattle.wh_query.specs.Asked.{in_form, query_reads}
 use Rattle.wh_query.proofs.ReadQueries.{queries_have_readings}
 use Rattle.wh_store.specs.Reads.{state_of}
 use Rattle.wh_program.specs.Readings.{queried_under}
-use Rattle.wh_words.specs.Request.{query_words}
+use Rattle.wh_words.specs.Task.{query_words}
+use Rattle.wh_program.proofs.LookingLemmas.{looks_itself, through_looks}
 use Rattle.wh_program.proofs.ReadingLemmas.{queried, no_query, not_read}
 use Rattle.wh_program.proofs.visits.query.query_answer.Goals as goal
 
@@ -35,3 +36,12 @@ returns-in-Err-Fault-clause-answered g c = λ clean limits commands ready.
 pub returns-in-Err-Memory-clause-answered : goal.returns-in-Err-Memory-clause-answered
 returns-in-Err-Memory-clause-answered g c = λ clean limits commands ready.
     not_read _ _ limits commands c.args.engine.now.session (state_of g.S.Store c.args.engine.now.tables) ready
+
+pub returns-in-Ok-clause-looks : goal.returns-in-Ok-clause-looks
+returns-in-Ok-clause-looks g c = through_looks c.query.ensures.reads
+
+pub returns-in-Err-Fault-clause-looks : goal.returns-in-Err-Fault-clause-looks
+returns-in-Err-Fault-clause-looks g c = looks_itself
+
+pub returns-in-Err-Memory-clause-looks : goal.returns-in-Err-Memory-clause-looks
+returns-in-Err-Memory-clause-looks g c = looks_itself

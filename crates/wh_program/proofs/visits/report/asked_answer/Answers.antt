@@ -2,7 +2,8 @@ use Rattle.std.proofs.Common.{◌∙◌, ap, sym}
 use Rattle.wh_engine.specs.declared.session.Session.{Session}
 use Rattle.wh_store.specs.Reads.{state_of}
 use Rattle.wh_program.specs.Readings.{asked_under}
-use Rattle.wh_words.specs.Request.{report_words}
+use Rattle.wh_words.specs.Task.{report_words}
+use Rattle.wh_program.proofs.LookingLemmas.{looks_itself, through_looks}
 use Rattle.wh_program.proofs.ReadingLemmas.{given-reads, reported, not_asked, not_read}
 use Rattle.wh_program.proofs.visits.report.asked_answer.Goals as goal
 
@@ -31,3 +32,12 @@ returns-in-Err-Fault-clause-reported g c = λ clean limits commands ready.
 pub returns-in-Err-Memory-clause-reported : goal.returns-in-Err-Memory-clause-reported
 returns-in-Err-Memory-clause-reported g c = λ clean limits commands ready.
     not_read _ _ limits commands c.args.engine.now.session (state_of g.S.Store c.args.engine.now.tables) ready
+
+pub returns-in-Ok-clause-looks : goal.returns-in-Ok-clause-looks
+returns-in-Ok-clause-looks g c = through_looks c.report.ensures.reads
+
+pub returns-in-Err-Fault-clause-looks : goal.returns-in-Err-Fault-clause-looks
+returns-in-Err-Fault-clause-looks g c = looks_itself
+
+pub returns-in-Err-Memory-clause-looks : goal.returns-in-Err-Memory-clause-looks
+returns-in-Err-Memory-clause-looks g c = looks_itself

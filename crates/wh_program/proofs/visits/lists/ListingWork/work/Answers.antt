@@ -3,6 +3,7 @@ use Rattle.std.specs.Prelude.{IfOk}
 use Rattle.std.proofs.lemmas.Result.{IfOk-from_err}
 use Rattle.wh_store.specs.Reads.{state_of}
 use Rattle.wh_program.specs.Lists.{whole_answer}
+use Rattle.wh_program.proofs.LookingLemmas.{looked}
 use Rattle.wh_program.proofs.ListLemmas.{list_stands}
 use Rattle.wh_program.proofs.visits.lists.ListingWork.work.Goals as goal
 
@@ -16,3 +17,9 @@ pub returns-in_err-answers-clause-done : goal.returns-in_err-answers-clause-done
 returns-in_err-answers-clause-done g c = λ clean limits commands ready.
     list_stands limits commands c.listed_answers.new.engine.session (state_of g.S.Store c.listed_answers.new.engine.tables) (map g.Q.Question.answered c.args.self.listed.now) c.from_residual.result _
     (c.in_err-answers.ensures.reported clean limits commands ready) (λ all told. IfOk-from_err c.from_residual.result _ c.from_residual.ensures.0)
+
+pub returns-clause-over : goal.returns-clause-over
+returns-clause-over g c = looked c.listed_answers.ensures.looks
+
+pub returns-in_err-answers-clause-over : goal.returns-in_err-answers-clause-over
+returns-in_err-answers-clause-over g c = looked c.listed_answers.ensures.looks

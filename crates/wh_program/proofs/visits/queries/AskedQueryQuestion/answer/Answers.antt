@@ -1,4 +1,4 @@
-use Rattle.wh_words.specs.Request.{query_words}
+use Rattle.wh_words.specs.Task.{query_words}
 use Rattle.wh_program.proofs.ListLemmas.{unfailed_query}
 use Rattle.wh_program.proofs.visits.queries.AskedQueryQuestion.answer.Goals as goal
 

@@ -2,6 +2,7 @@ use Rattle.std.proofs.Common.{◌≡◌, ◌∙◌, refl, ap, subst, None, Ok}
 use Rattle.std.specs.Prelude.{IfOk}
 use Rattle.wh_batch.specs.Mode.{mode_of_word}
 use Rattle.wh_program.specs.ReportLists.{answer_in}
+use Rattle.wh_program.proofs.LookingLemmas.{looks_itself}
 use Rattle.wh_program.proofs.ListLemmas.{unfailed_listed}
 use Rattle.wh_program.proofs.visits.reports.ListedReportQuestion.answer.Goals as goal
 
@@ -15,3 +16,6 @@ returns-in-None-clause-unfailed g c = λ commands. unfailed_listed c.args.self.n
 
 pub returns-in-Some-clause-unfailed : goal.returns-in-Some-clause-unfailed
 returns-in-Some-clause-unfailed g c = λ commands. unfailed_listed c.args.self.now commands
+
+pub returns-in-None-clause-looks : goal.returns-in-None-clause-looks
+returns-in-None-clause-looks g c = looks_itself

@@ -1,4 +1,6 @@
+use Rattle.wh_program.specs.Looking.{Looks}
 use Rattle.wh_store.specs.Reads.{state_of}
+use Rattle.wh_program.proofs.LookingLemmas.{looked, looks_itself}
 use Rattle.wh_program.proofs.ViewLemmas.{viewed}
 use Rattle.wh_program.proofs.visits.views.ViewingWork.work.Goals as goal
 
@@ -6,3 +8,8 @@ pub returns-clause-done : goal.returns-clause-done
 returns-clause-done g c = λ clean limits commands ready.
     viewed limits commands c.views_answer.result c.args.engine.now.session (state_of g.S.Store c.args.engine.now.tables)
     (rw (c.policy.ensures, c.format.ensures) at c.views_answer.ensures) ready
+
+pub returns-clause-over : goal.returns-clause-over
+returns-clause-over g c =
+    let same : Looks g.S.Store c.args.engine.now c.args.engine.now = looks_itself in
+    looked same

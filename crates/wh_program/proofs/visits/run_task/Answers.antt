@@ -1,7 +1,7 @@
 use Rattle.std.proofs.Common.{Ok, refl, inl, inr}
 use Rattle.wh_program.specs.Answer.{refused, session_line}
 use Rattle.std.proofs.lemmas.Result.{IfOk-weaker}
-use Rattle.wh_program.proofs.program.run_task.Goals as goal
+use Rattle.wh_program.proofs.visits.run_task.Goals as goal
 
 pub returns-in-Trial-clause-runs : goal.returns-in-Trial-clause-runs
 returns-in-Trial-clause-runs g c = rw c.in-Trial.is (refl, (c.trial.result, c.trial.ensures, c.print_answer.ensures))
@@ -17,6 +17,9 @@ returns-in-ExplainInit-clause-runs g c = rw c.in-ExplainInit.is (refl, (c.explai
 
 pub returns-in-Session-clause-runs : goal.returns-in-Session-clause-runs
 returns-in-Session-clause-runs g c = rw c.in-Session.is (refl, (Ok (refused session_line), refl, c.print.ensures))
+
+pub returns-in-Dump-clause-runs : goal.returns-in-Dump-clause-runs
+returns-in-Dump-clause-runs g c = rw c.in-Dump.is ((λ content of_commands stood. c.print_dump.ensures.answers content of_commands stood), c.print_dump.ensures.leaves)
 
 pub returns-in-Init-clause-shut : goal.returns-in-Init-clause-shut
 returns-in-Init-clause-shut g c = rw c.in-Init.is (λ shut. let is = c.init.ensures.shut shut in (is.0, (c.init.result, is.1, c.print_answer-in-Init.ensures)))
