@@ -2,28 +2,24 @@
 use Rattle.std.proofs.Common.{◌≡◌, ℕ, true, false, cond, ◌&&◌, List, [], ◌∷◌, ◌++◌, map, Option, Some, None, refl, ◌∙◌, ap, ap₂}
 use Rattle.std.specs.Prelude.{filter, option_map, unwrap_or}
 use Rattle.std.specs.Option.{option_and_then}
-use Rattle.wh_day.specs.Holidays.{holiday_text}
 use Rattle.wh_policy.specs.Policy.{trial_policy}
 use Rattle.wh_policy.specs.declared.policy.Policy.{Policy}
-use Rattle.wh_policy.specs.declared.attribute.Dim.{Dim}
 use Rattle.wh_policy.specs.declared.record.SaleRecord.{SaleRecord}
 use Rattle.wh_policy.specs.declared.record.VoidRecord.{VoidRecord}
-use Rattle.wh_history.specs.Accepted.{Accepted, Withdraws, member_of_sale, withdrawn_by, standing, standing_but}
-use Rattle.wh_history.specs.declared.member.Member.{Member}
+use Rattle.wh_history.specs.Accepted.{Accepted, Withdraws, withdrawn_by, standing, standing_but}
 use Rattle.wh_history.proofs.Standing.{standing-voided}
 use Rattle.wh_history.proofs.Stays.{policy_last}
-use Rattle.wh_model.proofs.QuietLists.{member_quiet}
 use Rattle.wh_model.proofs.WithdrawnRows.{quiet, no_policy}
 use Rattle.wh_admission.specs.Admission.{current_policy}
-use Rattle.wh_report.specs.Label.{label, member_label, shown}
+use Rattle.wh_report.proofs.VoidedReports.{same_label}
+use Rattle.wh_report.specs.Label.{label}
 use Rattle.wh_report.specs.Lines.{Labelled, lines}
 use Rattle.wh_report.specs.Subject.{subject_in, reading_of}
 use Rattle.wh_report.specs.declared.subject.Reading.{Reading}
 use Rattle.wh_report.specs.declared.subject.Subject.{Subject}
-use Rattle.wh_report.specs.declared.subject.Subject.TheVariants.{Attribute, Month, Holiday}
-use Rattle.wh_query.specs.Answer.{label_in, labels_in, is_in, measures_of}
+use Rattle.wh_query.specs.Answer.{label_in, labels_in, labelled_in, is_in, measures_of}
 use Rattle.wh_query.specs.Asked.{ColumnAsked, QueryAsked, condition_columns, is_between, holds}
-use Rattle.wh_query.specs.Laws.{labelled_in, VoidsTakeTheirSales}
+use Rattle.wh_query.specs.Laws.{VoidsTakeTheirSales}
 use Rattle.wh_query.specs.Words.{by_texts}
 
 module _ (commands : List Accepted) (c : Accepted) (voids : List VoidRecord) (is : c.content ≡ Withdraws voids) where
@@ -32,15 +28,6 @@ module _ (commands : List Accepted) (c : Accepted) (voids : List VoidRecord) (is
 
   same_policy : current_policy (commands ++ c ∷ []) ≡ current_policy commands
   same_policy = ap (λ (o : Option Policy). unwrap_or o trial_policy) (policy_last None commands c (no_policy commands c voids is))
-
-  by_member : (dim : Dim) (place day : ℕ) (which : Reading) (o : Option (List ℕ)) → member_label after dim place day which o ≡ member_label commands dim place day which o
-  by_member dim place day which None = refl
-  by_member dim place day which (Some natural) = ap (λ (m : Member). shown m.changes place day which) (member_quiet commands c (quiet commands c voids is) dim natural)
-
-  same_label : (subject : Subject) (which : Reading) (s : SaleRecord) → label (commands ++ c ∷ []) subject which s ≡ label commands subject which s
-  same_label (Attribute a) which s = by_member a.dim a.place s.day which (member_of_sale a.dim s)
-  same_label Month which s = refl
-  same_label Holiday which s = ap (λ (o : Option Policy). holiday_text (unwrap_or (option_map (λ policy. policy.holidays) o) []) s.day) (policy_last None commands c (no_policy commands c voids is))
 
   abbrev under : List Accepted → Policy → ColumnAsked → SaleRecord → List ℕ
   under history policy column s = unwrap_or (option_and_then (λ subject. option_map (λ which. label history subject which s) (reading_of subject column.mode)) (subject_in policy column.words)) []
@@ -53,7 +40,7 @@ module _ (commands : List Accepted) (c : Accepted) (voids : List VoidRecord) (is
         | None ↦ refl
         | Some subject ↦ elim (reading_of subject column.mode) as (λ (o : Option Reading). unwrap_or (option_map (λ which. label after subject which s) o) [] ≡ unwrap_or (option_map (λ which. label commands subject which s) o) []) [
           | None ↦ refl
-          | Some which ↦ same_label subject which s
+          | Some which ↦ same_label commands c voids is subject which s
         ]
       ]
 

@@ -33,9 +33,13 @@ is_in commands q s = is_between q s.day && holds q.conditions (labels_in command
 abbrev pub measures_of : SaleRecord → Measured
 measures_of s = record { quantity = s.quantity; amount = s.amount; cost = s.cost }
 
--- the sales of the slice that stand, each with its labels
+-- those of some sales that are in the slice, each with its labels
+abbrev pub labelled_in : List Accepted → QueryAsked → List SaleRecord → List (Labelled (List (List ℕ)))
+labelled_in commands q sales = map (λ s. record { label = labels_in commands q.columns s; measures = measures_of s }) (filter (is_in commands q) sales)
+
+-- those that stand
 abbrev pub sold_in : List Accepted → QueryAsked → List (Labelled (List (List ℕ)))
-sold_in commands q = map (λ s. record { label = labels_in commands q.columns s; measures = measures_of s }) (filter (is_in commands q) (standing commands))
+sold_in commands q = labelled_in commands q (standing commands)
 
 -- a line for each tuple of labels that a sale of the slice has
 abbrev pub answer : List Accepted → QueryAsked → List (List (List ℕ) × Figures)

@@ -4,7 +4,6 @@ use Rattle.std.specs.List.{AllByRecursion}
 use Rattle.std.specs.List.Sorted.{IsPermutation, IsStrictlySortedBy}
 use Rattle.wh_day.specs.Reading.{◌>>=◌}
 use Rattle.wh_policy.specs.declared.policy.Policy.{Policy}
-use Rattle.wh_policy.specs.declared.record.SaleRecord.{SaleRecord}
 use Rattle.wh_policy.specs.declared.record.VoidRecord.{VoidRecord}
 use Rattle.wh_history.specs.Accepted.{Accepted, Withdraws, standing, standing_but}
 use Rattle.wh_admission.specs.Admission.{current_policy}
@@ -19,7 +18,7 @@ use Rattle.wh_report.specs.Summary.{Sold, by_bytes, summed}
 use Rattle.wh_report.specs.Text.{summary_text, titles}
 use Rattle.wh_report.specs.declared.subject.Reading.{Reading}
 use Rattle.wh_report.specs.declared.subject.Subject.{Subject}
-use Rattle.wh_query.specs.Answer.{labels_in, is_in, measures_of, answer, query}
+use Rattle.wh_query.specs.Answer.{is_in, labelled_in, measures_of, answer, query}
 use Rattle.wh_query.specs.Asked.{ColumnAsked, ConditionAsked, QueryAsked, column_name, report_asked, query_reads, same_column}
 use Rattle.wh_query.specs.Reading.{mode_meant, read_query}
 use Rattle.wh_batch.specs.QueryWords.{ColumnGiven, ConditionGiven}
@@ -105,10 +104,6 @@ exchanged (suc n) (x ∷ xs) = x ∷ exchanged n xs
 -- The order of the columns only orders the lines: with two neighbouring columns exchanged they are those that there were, each with these two labels exchanged and with the same figures, in another order. Such exchanges, repeated, lead to any order of the columns.
 abbrev pub ColumnsOrderLines : Type 0
 ColumnsOrderLines = (commands : List Accepted) (q : QueryAsked) (n : ℕ) → IsPermutation (map (λ l. (exchanged n l.0, l.1)) (answer commands q)) (answer commands (by_columns (exchanged n q.columns) q))
-
--- those of some sales that are in the slice, each with its labels
-abbrev pub labelled_in : List Accepted → QueryAsked → List SaleRecord → List (Labelled (List (List ℕ)))
-labelled_in commands q sales = map (λ s. record { label = labels_in commands q.columns s; measures = measures_of s }) (filter (is_in commands q) sales)
 
 -- What queries no longer sum after a batch of voids are the sales of its lines, and no others; the others keep their labels, and so their place in the slice.
 abbrev pub VoidsTakeTheirSales : Type 0

@@ -29,7 +29,7 @@ module _ (commands : List Accepted) (c : Accepted) (lines : List VoidRecord) (is
   by_member dim place day which None = refl
   by_member dim place day which (Some natural) = ap (λ (m : Member). shown m.changes place day which) (member_quiet commands c (quiet commands c lines is) dim natural)
 
-  same_label : (subject : Subject) (which : Reading) (s : SaleRecord) → label (commands ++ c ∷ []) subject which s ≡ label commands subject which s
+  pub same_label : (subject : Subject) (which : Reading) (s : SaleRecord) → label (commands ++ c ∷ []) subject which s ≡ label commands subject which s
   same_label (Attribute a) which s = by_member a.dim a.place s.day which (member_of_sale a.dim s)
   same_label Month which s = refl
   same_label Holiday which s = ap (λ (o : Option Policy). holiday_text (unwrap_or (option_map (λ policy. policy.holidays) o) []) s.day) (policy_last None commands c (no_policy commands c lines is))
