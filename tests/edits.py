@@ -556,7 +556,7 @@ def verdict_of_test(room, path, edit, test):
     lines = source.read_text().split("\n")
     source.write_text("\n".join(lines[: edit.first] + edit.lines + lines[edit.past :]))
     how = {"stdin": subprocess.DEVNULL, "stdout": subprocess.PIPE, "stderr": subprocess.STDOUT}
-    tried = subprocess.run(["rt", "try", "--test"], cwd=room / "crates" / crate_of_test(test), text=True, errors="replace", **how).stdout
+    tried = subprocess.run(["rt", "try", "--test", "--seconds", "300"], cwd=room / "crates" / crate_of_test(test), text=True, errors="replace", **how).stdout
     shutil.rmtree(room)
     return next((Verdict(said, why) for name, said, why in TESTED.findall(tried) if name == test), Verdict("", why_bad(Said(tried, {}))))
 

@@ -7,27 +7,39 @@
 //!   `long NAME NUMBER`: so many letters.
 //!
 //! A run has the words of its step, parted by blanks, and then those that it is handed, each a line. A file's name is no warehouse's.
-//! - `run WORDS` answers the lines that were printed, and the status, and, of a warehouse that it wrote to, what a check prints where it isn't clean; `lines WORDS` how many lines they are, and the status; `ended WORDS`
-//!   the status, and whether anything was printed.
-//! - `session FILE` answers what a session of the lines that it is handed prints, and its status.
+//! After what was printed stands the status, but where the lines say it: 4 where one begins with `error: `, else 3 where one begins with
+//! `failed: ` or `wrong: `, 2 with `refused: `, and 0 where none does.
+//! - `run WORDS` answers the lines that were printed and, of a warehouse that it wrote to, what a check prints where it isn't clean;
+//!   `lines WORDS` how many lines they are.
+//! - `ends STATUS WORDS` answers nothing where the run ends with this status and prints something, and a check of what it wrote is clean.
+//! - `each WORDS` makes a run for each line that it is handed, whose words follow these. It answers what the first is answered, and of each
+//!   other that is answered otherwise its line and that.
+//! - `report NAME WORDS` answers a report without its first line, which has these words.
+//! - `table NAME TABLE COLUMN..` answers such columns of a table.
+//! - `changed NAME TEXT` alters what stands under a name as `sql` does, answers what a check prints, and alters it back with the line that
+//!   it is handed.
+//! - `session FILE` answers what a session of the lines that it is handed prints.
 //! - `breaks BYTES WORDS` makes the run again and again, on a page that takes so many bytes a call and fails from a call on, or at a call
 //!   alone. It answers how many calls there are, and what was written.
 //! - `fails BYTES FROM TO WORDS` makes the run once, on a page that takes so many bytes a call and fails from the call FROM, the first being 0, to before
-//!   the call TO. It answers what was written, and the status.
+//!   the call TO. It answers what was written.
 //!
 //! `sql NAME TEXT` alters what stands under a name, `stands NAME` answers whether anything does, and `anew` forgets all warehouses.
 
 mod answers;
+mod broken;
 mod files;
 mod host;
 mod memory;
 mod page;
+mod printed;
 mod runs;
 mod scenarios;
 
+use crate::program::broken::{breaks, fails};
 use crate::program::files::{add_file, add_large_file};
 use crate::program::host::alter;
-use crate::program::runs::{breaks, ended, fails, lines, run_step, session};
+use crate::program::runs::{changed, each, ends, lines, report, run_step, session, table};
 use std::alloc::Global;
 use wh_memory_host::MemoryHost;
 use wh_scenarios::{Driver, NotMade, Step, parted, push_line};
@@ -68,8 +80,12 @@ fn perform(
     match verb {
         "run" => run_step(alloc, host, rest, handed, out),
         "lines" => lines(alloc, host, rest, handed, out),
+        "ends" => ends(alloc, host, rest, handed, out),
+        "each" => each(alloc, host, rest, handed, out),
+        "report" => report(alloc, host, rest, out),
+        "table" => table(alloc, host, rest, out),
+        "changed" => changed(alloc, host, rest, handed, out),
         "session" => session(alloc, host, rest, handed, out),
-        "ended" => ended(alloc, host, rest, handed, out),
         "breaks" => breaks(alloc, host, rest, out),
         "fails" => fails(alloc, host, rest, out),
         "stands" => push_standing(host, rest, out),

@@ -1,5 +1,6 @@
-//! The steps of a scenario, and their run.
+//! Scenarios, their steps, and their run.
 
+use crate::pattern::push_pattern;
 use std::alloc::{AllocError, AllocFailed, Global};
 use std::test::Fail;
 
@@ -31,6 +32,13 @@ pub struct Step<'a> {
     answer: String,
 }
 
+/// Steps under a name.
+#[derive(Drop)]
+struct Scenario<'a> {
+    name: &'a str,
+    steps: Vec<Step<'a>>,
+}
+
 /// What makes the steps of a scenario, one after the other.
 pub trait Driver: Drop + Sized {
     /// A driver that has made no step.
@@ -51,7 +59,7 @@ pub fn push_line(lines: &mut String, line: &str) -> Result<(), AllocError> {
     lines.push_str("\n")
 }
 
-/// Adds a line of the scenario to its steps.
+/// Adds a line to the steps of a scenario.
 fn read_line<'a>(
     alloc: Global,
     steps: &mut Vec<Step<'a>>,
@@ -62,7 +70,9 @@ fn read_line<'a>(
     match (sign, steps.last_mut()) {
         (">", Some(step)) => push_line(&mut step.handed, text)?,
         ("=", Some(step)) => push_line(&mut step.answer, text)?,
-        (">" | "=", None) => return Err(NotMade),
+        (">*", Some(step)) => push_pattern(alloc, &mut step.handed, text)?,
+        ("=*", Some(step)) => push_pattern(alloc, &mut step.answer, text)?,
+        (">" | "=" | ">*" | "=*", None) => return Err(NotMade),
         _ => steps.push(Step {
             number,
             words: line,
@@ -73,23 +83,42 @@ fn read_line<'a>(
     Ok(())
 }
 
-/// Adds the steps of a text.
-fn add_steps<'a>(alloc: Global, steps: &mut Vec<Step<'a>>, text: &'a str) -> Result<(), NotMade> {
+/// Adds a line of a text: the name of a further scenario, or a line of the last one.
+fn add_line<'a>(
+    alloc: Global,
+    scenarios: &mut Vec<Scenario<'a>>,
+    number: usize,
+    line: &'a str,
+) -> Result<(), NotMade> {
+    match (parted(line, ' '), scenarios.last_mut()) {
+        (("scenario", name), _) => Ok(scenarios.push(Scenario::new(alloc, name))?),
+        (_, Some(scenario)) => read_line(alloc, &mut scenario.steps, number, line),
+        (_, None) => Err(NotMade),
+    }
+}
+
+/// Adds the scenarios of a text.
+fn add_scenarios<'a>(
+    alloc: Global,
+    scenarios: &mut Vec<Scenario<'a>>,
+    text: &'a str,
+) -> Result<(), NotMade> {
     for (place, line) in text.lines().enumerate() {
         if !line.is_empty() && !line.starts_with('#') {
-            read_line(alloc, steps, place.saturating_add(1), line)?;
+            add_line(alloc, scenarios, place.saturating_add(1), line)?;
         }
     }
     Ok(())
 }
 
-/// The steps of a scenario, whose texts follow one another.
-fn steps_of<'a>(alloc: Global, texts: &[&'a str]) -> Result<Vec<Step<'a>>, NotMade> {
-    let mut steps = Vec::new(alloc);
+/// What stands before the first name, and then the scenarios of texts that follow one another.
+fn scenarios_of<'a>(alloc: Global, texts: &[&'a str]) -> Result<Vec<Scenario<'a>>, NotMade> {
+    let mut scenarios = Vec::new(alloc);
+    scenarios.push(Scenario::new(alloc, ""))?;
     for text in texts {
-        add_steps(alloc, &mut steps, text)?;
+        add_scenarios(alloc, &mut scenarios, text)?;
     }
-    Ok(steps)
+    Ok(scenarios)
 }
 
 /// The first line that differs, as it was answered and as it stands in the scenario. Where one of the answers is over, its line is
@@ -126,18 +155,75 @@ fn told_not_made(alloc: Global, step: &Step<'_>) -> Result<String, AllocError> {
     format!(in alloc; "line {number}, {words}: is not made")
 }
 
-/// Makes the steps of a scenario in turn, up to the first that answers otherwise than it must, and tells how its first such line
-/// differs. A scenario is one text, or several that follow one another; one that begins with an answer is none.
-pub fn difference<D: Driver>(alloc: Global, texts: &[&str]) -> Result<Option<String>, NotMade> {
-    let steps = steps_of(alloc, texts)?;
-    let mut driver = D::start(alloc)?;
-    for step in &steps {
+/// Makes steps in turn, up to the first that answers otherwise than it must, and tells how its first such line differs.
+fn make<D: Driver>(
+    alloc: Global,
+    mut driver: D,
+    steps: &[Step<'_>],
+) -> Result<Result<D, String>, NotMade> {
+    for step in steps {
         let mut answer = String::new(alloc);
         driver = match driver.perform(alloc, step, &mut answer) {
             Ok(driver) => driver,
-            Err(NotMade) => return Ok(Some(told_not_made(alloc, step)?)),
+            Err(NotMade) => return Ok(Err(told_not_made(alloc, step)?)),
         };
-        let told = told(alloc, step, answer.as_str())?;
+        if let Some(line) = told(alloc, step, answer.as_str())? {
+            return Ok(Err(line));
+        }
+    }
+    Ok(Ok(driver))
+}
+
+/// Puts the name of a scenario before a line.
+fn named(alloc: Global, name: &str, line: &str) -> Result<String, AllocError> {
+    let mut text = String::from_str(alloc, name)?;
+    text.push_str(": ")?;
+    text.push_str(line)?;
+    Ok(text)
+}
+
+/// Makes the steps before the first name.
+fn opened<D: Driver>(alloc: Global, opening: &Scenario<'_>) -> Result<Result<D, String>, NotMade> {
+    make(alloc, D::start(alloc)?, &opening.steps)
+}
+
+impl<'a> Scenario<'a> {
+    fn new(alloc: Global, name: &'a str) -> Scenario<'a> {
+        Scenario {
+            name,
+            steps: Vec::new(alloc),
+        }
+    }
+
+    /// Makes its steps after those before the first name.
+    fn difference<D: Driver>(
+        &self,
+        alloc: Global,
+        opening: &Scenario<'_>,
+    ) -> Result<Option<String>, NotMade> {
+        let driver = match opened::<D>(alloc, opening)? {
+            Ok(driver) => driver,
+            Err(line) => return Ok(Some(line)),
+        };
+        match make(alloc, driver, &self.steps)? {
+            Ok(_driver) => Ok(None),
+            Err(line) => Ok(Some(named(alloc, self.name, line.as_str())?)),
+        }
+    }
+}
+
+/// Makes the scenarios of texts that follow one another, each with a driver of its own, which first makes the steps before the first
+/// name. Tells where the first that fails differs; texts that begin with an answer are none.
+pub fn difference<D: Driver>(alloc: Global, texts: &[&str]) -> Result<Option<String>, NotMade> {
+    let scenarios = scenarios_of(alloc, texts)?;
+    let Some((opening, named)) = scenarios.split_first() else {
+        return Err(NotMade);
+    };
+    if named.is_empty() {
+        return Ok(opened::<D>(alloc, opening)?.err());
+    }
+    for scenario in named {
+        let told = scenario.difference::<D>(alloc, opening)?;
         if told.is_some() {
             return Ok(told);
         }

@@ -5,9 +5,9 @@
 //! - `status FAULT`, `counts FORMAT COMMANDS CHANGES FACTS PRODUCTS STORES CUSTOMERS`: the answer to a count.
 //! - `made`, `making FAULT`: the answer to the making of a warehouse. `opening FAULT`: where none is opened.
 //!
-//! FAULTs are named as the variants of their types.
+//! FAULTs are named as the variants of their types. The status stands after the lines as in `program`, where these don't say it.
 
-use crate::program::runs::{push_printed, push_status};
+use crate::program::printed::{push_ended, text_of};
 use std::alloc::{AllocError, Global};
 use wh_batch::{BatchFault, FaultKind};
 use wh_engine::{Counts, Fault, InitFault, Limit, OpenFault, Receipt, Refusal, Reply};
@@ -42,10 +42,7 @@ impl Driver for AnswerDriver {
 
 fn push_answer(out: &mut String, answer: Result<Answer, AllocError>) -> Result<(), AllocError> {
     match answer {
-        Ok(answer) => {
-            push_printed(out, answer.text())?;
-            push_status(out, answer.status().code())
-        }
+        Ok(answer) => push_ended(out, text_of(answer.text()), answer.status().code()),
         Err(AllocError) => push_line(out, "no answer"),
     }
 }

@@ -1,6 +1,7 @@
 //! Demographic bands of customers: profiles of their own, which facts name, and under one of two types customers too.
 
-pub const NAMED_BY_ROWS: &str = "\
+pub const ALL: &str = "
+scenario named by rows
 make bands-of-rows
 load p0 p2
 send sales s1
@@ -95,10 +96,9 @@ table profile
 = 1,,(unknown),(unknown),,,
 = 2,,30-39,high,,,
 = 3,,40-49,high,,,
-";
 
-/// Where facts alone name profiles, a customer's row names none.
-pub const NAMED_BY_FACTS: &str = "\
+# Where facts alone name profiles, a customer's row names none.
+scenario named by facts alone
 make bands-of-facts
 load p0 p2
 batch s1
@@ -127,10 +127,9 @@ table profile
 = 1,,(unknown),(unknown),,,
 = 2,,30-39,high,,,
 = 3,,40-49,high,,,
-";
 
-/// A sale to a customer with bands has the profile of its day.
-pub const OF_THE_DAY: &str = "\
+# A sale to a customer with bands has the profile of its day.
+scenario of the day of a sale
 make bands-of-rows
 load p0 c2
 send sales s3

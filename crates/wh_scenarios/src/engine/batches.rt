@@ -1,6 +1,7 @@
 //! Batches with a fault, batches of nothing, and batches of stores and customers.
 
-pub const FAULTS: &str = "\
+pub const ALL: &str = "
+scenario faults
 # A batch with a fault leaves nothing, and its id is free.
 make flat
 mark
@@ -59,9 +60,8 @@ send product p00
 = refused: WrongHeader at 0
 batch p1
 = accepted 3: 1 records, 0 placeholders
-";
 
-pub const OTHERS: &str = "\
+scenario others
 # No sales.
 make flat
 send sales s0

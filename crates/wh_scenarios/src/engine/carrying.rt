@@ -1,8 +1,9 @@
 //! Members that are carried to the next warehouse, and the parts that they stand in.
 
-/// Two products of which news came late or a correction, one that sales alone mentioned, and a customer with bands. The first records give the next
-/// warehouse the original values, and the dated ones the rows; no member that no record described is carried.
-pub const WORKED: &str = r#"make bands-of-rows
+pub const ALL: &str = r#"
+# Two products of which news came late or a correction, one that sales alone mentioned, and a customer with bands. The first records give the next warehouse the original values, and the dated ones the rows; no member that no record described is carried.
+scenario worked
+make bands-of-rows
 send product p1
 > id,day,description,brand,category,department,launched,supplier
 > P1,2024-05-01,Cola,Acme,Drinks,Grocery,2019,South

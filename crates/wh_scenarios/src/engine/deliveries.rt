@@ -1,7 +1,8 @@
 //! Several commands at once: each has its answer, a refused one stops nothing, and all may be delivered again, also after a stop of the
 //! machine.
 
-pub const DELIVERIES: &str = "\
+pub const ALL: &str = "
+scenario deliveries
 make small
 
 # No command.
@@ -104,9 +105,8 @@ deliver
 = already 2: 2 records, 0 placeholders
 same
 = the same
-";
 
-pub const AGAIN: &str = "\
+scenario again
 deliver_again small
 > product p1
 > id,day,brand

@@ -1,6 +1,7 @@
 //! Warehouses that are full.
 
-pub const OF_RECORDS: &str = "\
+pub const ALL: &str = "
+scenario of records
 # The last command, and no room for another.
 make flat 2 10 10
 batch p0
@@ -45,9 +46,8 @@ make flat 2 1 1
 load p1 p1
 batch p2
 = refused: Full(Commands)
-";
 
-pub const OF_SALES: &str = "\
+scenario of sales
 # No room for a fact.
 make flat 10 10 2
 batch s1

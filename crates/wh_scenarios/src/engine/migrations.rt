@@ -1,6 +1,7 @@
 //! Policies that take the place of others, and policies that don't.
 
-pub const MIGRATIONS: &str = r#"
+pub const ALL: &str = r#"
+scenario migrations
 make bands-of-rows
 load p0 c2
 

@@ -1,6 +1,7 @@
 //! Which databases are opened, and in which a warehouse is made.
 
-pub const OTHER_DATABASES: &str = "\
+pub const ALL: &str = "
+scenario other databases
 # An empty database, and the tables of another program.
 empty
 open
@@ -73,9 +74,8 @@ close
 sql UPDATE meta SET value = 0 WHERE name = 'facts_max'
 open
 = Damaged(Meta)
-";
 
-pub const OPENED: &str = "\
+scenario opened
 # No making.
 make flat
 load p0 p1
@@ -141,9 +141,8 @@ open
 load p0 p0
 batch p1
 = refused: Full(Commands)
-";
 
-pub const DAMAGED: &str = "\
+scenario damaged
 # A row of each table is damaged in turn. Meta and the making's row keep a warehouse from opening.
 make flat
 load p0 p1
@@ -260,9 +259,8 @@ send product a1
 = accepted 6: 1 records, 0 placeholders
 batch p3
 = Damaged(Fact)
-";
 
-pub const EXCHANGED: &str = "\
+scenario exchanged
 # Under the ids of two commands the rows of each other stand: a command that comes again finds other bytes than its own.
 make flat
 load p0 p1
@@ -278,9 +276,8 @@ batch p1
 = refused: Reused
 batch p2
 = accepted 4: 1 records, 0 placeholders
-";
 
-pub const MAKING: &str = "\
+scenario making
 # The warehouse that is there stays as it was.
 make flat
 load p0 p1

@@ -1,6 +1,7 @@
 //! The reads and writes that a command is made of.
 
-pub const PARTS: &str = "\
+pub const ALL: &str = "
+scenario parts
 # A warehouse is made: the days of four years, the profiles of no card and of the unknown. Sales without a card have a row.
 trial
 count calendar

@@ -1,6 +1,7 @@
 //! What a batch would write, and how many keys it then wrote.
 
-pub const PLANS: &str = "\
+pub const ALL: &str = "
+scenario plans
 make bands-of-rows
 writes
 = written 0
@@ -89,12 +90,9 @@ plan sales s3
 = put fact T10 1
 = put fact T9 1
 = put fact T9 2
-";
 
-/// A batch reads the rows, the records and the facts of its own members, and of the kept batches the bytes of none: in a file that is damaged
-/// elsewhere it has its plan, and is accepted. A body that computes all tables anew from the kept commands and writes the difference meets
-/// each contract, since these speak of the tables of accepted commands; this is for it. `refused-by-tests` of `wh_engine` has such a body.
-pub const TOUCHED: &str = "\
+# A batch reads the rows, the records and the facts of its own members, and of the kept batches the bytes of none: in a file that is damaged elsewhere it has its plan, and is accepted. A body that computes all tables anew from the kept commands and writes the difference meets each contract, since these speak of the tables of accepted commands; this is for it. `refused-by-tests` of `wh_engine` has such a body.
+scenario touched
 make bands-of-rows
 load p0 c4
 counts

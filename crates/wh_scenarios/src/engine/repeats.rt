@@ -1,6 +1,8 @@
 //! Commands that come again, and others under their ids.
 
-pub const REPEATS: &str = r#"make flat
+pub const ALL: &str = r#"
+scenario repeats
+make flat
 load p0 p2
 send sales s1
 > ticket,line,day,store,product,customer,quantity,amount,cost

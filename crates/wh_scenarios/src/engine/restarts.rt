@@ -1,6 +1,7 @@
 //! A batch acts once over a machine that stops.
 
-pub const RESTARTS: &str = "\
+pub const ALL: &str = "
+scenario restarts
 redeliver small product p1
 > id,day,brand
 > P1,2024-01-10,Acme

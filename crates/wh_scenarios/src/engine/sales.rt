@@ -1,6 +1,7 @@
 //! Batches of sales among batches of members, in order, and the facts after them.
 
-pub const AMONG_BATCHES: &str = "\
+pub const ALL: &str = "
+scenario among batches
 # Each sale has the row of its day, and a sale without a card has zeros.
 make flat
 load p0 p2
@@ -156,10 +157,9 @@ table fact
 = T0,1,20231231,1,1,0,1,1,0,0,1,250,160
 = T1,1,20240205,1,3,0,1,1,0,0,2,500,320
 = T2,1,20240610,1,9,3,1,2,1,2,1,1000,700
-";
 
-/// The same answers, and facts, where nothing else is asked between the batches.
-pub const IN_ONE_SESSION: &str = "\
+# The same answers, and facts, where nothing else is asked between the batches.
+scenario in one session
 make flat
 load p0 p2
 batch s1
@@ -182,9 +182,8 @@ table fact
 = T0,1,20231231,1,1,0,1,1,0,0,1,250,160
 = T1,1,20240205,1,3,0,1,1,0,0,2,500,320
 = T2,1,20240610,1,9,3,1,2,1,2,1,1000,700
-";
 
-pub const OTHERS: &str = "\
+scenario others
 # A store moves the sales of its days alone.
 make flat
 load p0 p2
@@ -324,9 +323,8 @@ table fact
 = T33,1,20240205,1,3,0,1,1,0,0,33,3305,1980
 = T34,1,20240115,1,1,0,1,1,0,0,34,3405,2040
 = T35,1,20240205,1,3,0,1,1,0,0,35,3505,2100
-";
 
-pub const REFUSED: &str = "\
+scenario refused
 # A line that is there. The first sale is good, and isn't kept.
 make flat
 load p0 p2

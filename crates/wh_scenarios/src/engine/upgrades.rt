@@ -1,7 +1,8 @@
 //! Warehouses whose facts get a discount, by one command.
 
-/// After the worked batches and migrations: the facts change their table, and what is sold from then on has a discount.
-pub const WORKED: &str = "\
+pub const ALL: &str = "
+# After the worked batches and migrations: the facts change their table, and what is sold from then on has a discount.
+scenario worked upgrade
 make bands-of-rows
 load p0 c2
 send migrate m1
@@ -136,10 +137,9 @@ same
 = the same
 send upgrade u2
 = refused: Upgraded
-";
 
-/// Late records and policies after an upgrade move the facts of the second table, and leave their discounts.
-pub const LATER: &str = r#"
+# Late records and policies after an upgrade move the facts of the second table, and leave their discounts.
+scenario batches and policies after an upgrade
 make small
 send product p1
 > id,day,brand
@@ -290,10 +290,9 @@ table fact2
 = T2,1,20240306,1,1,0,1,1,0,0,1,250,160,25
 check
 = clean
-"#;
 
-/// Upgrades that aren't made, in the order in which it is asked why.
-pub const REFUSED: &str = "\
+# Upgrades that aren't made, in the order in which it is asked why.
+scenario upgrades that are refused
 # A bad id, an id that a batch has, and one that an upgrade has.
 make small
 send product p1
@@ -392,10 +391,9 @@ send upgrade u1
 = accepted 4: 0 records, 0 placeholders
 check
 = clean
-";
 
-/// Files of the second format that somebody changed.
-pub const DAMAGED: &str = "\
+# Files of the second format that somebody changed.
+scenario changed files of the second format
 # One of the two tables is gone, or the first table of facts.
 make small
 send upgrade u1

@@ -1,7 +1,8 @@
 //! Lines of tickets that are withdrawn.
 
-/// After the worked batches, migrations and the upgrade: a line is withdrawn, and stays so.
-pub const WORKED: &str = "\
+pub const ALL: &str = "
+# After the worked batches, migrations and the upgrade: a line is withdrawn, and stays so.
+scenario worked void
 make bands-of-rows
 load p0 c2
 send migrate m1
@@ -132,10 +133,9 @@ send sales s7
 > T12,1,2024-07-05,S1,P1,C9,2,5.00,3.20,0
 > T0,2,2024-07-05,S1,P1,C9,2,5.00,3.20,0
 = accepted 25: 2 records, 0 placeholders
-";
 
-/// What comes after voids: late records and policies move the facts that stand, and members stay.
-pub const LATER: &str = r#"
+# What comes after voids: late records and policies move the facts that stand, and members stay.
+scenario batches and policies after voids
 make small
 send product p1
 > id,day,brand
@@ -300,10 +300,9 @@ table void
 = T1,2,4
 check
 = clean
-"#;
 
-/// Voids that aren't accepted, in the order in which it is asked why.
-pub const REFUSED: &str = "\
+# Voids that aren't accepted, in the order in which it is asked why.
+scenario voids that are refused
 make small
 send upgrade u1
 = accepted 2: 0 records, 0 placeholders

@@ -1,6 +1,7 @@
 //! Batches of one product, in order, and its rows after them.
 
-pub const ANSWERS: &str = "\
+pub const ALL: &str = "
+scenario answers
 make flat
 batch p0
 = accepted 2: 0 records, 0 placeholders
@@ -34,9 +35,8 @@ table product
 = 3,1,P1,20240201,20240331,0,Cola 1 l,Cask,Drinks,Grocery,2019,South,,,Soft drinks,,,East,0
 = 4,1,P1,20240120,20240131,0,Cola 1 l,Bolt,Drinks,Grocery,2019,South,,,Soft drinks,,,East,0
 = 6,1,P1,20240401,99991231,1,Cola 1 l,Cask,Soft drinks,Grocery,2019,South,,,Soft drinks,,,East,0
-";
 
-pub const ROWS: &str = "\
+scenario rows
 make flat
 load p0 p0
 table product

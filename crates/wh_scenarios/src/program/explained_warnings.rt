@@ -1,24 +1,20 @@
 //! What `explain` says of inputs that would be accepted and may be slips. The expected lines are worked by hand.
 
-/// Cells left empty, under the policy of `explained::WANTED`.
-pub const LEFT_OUT: &str = r#"
-policy policy.toml
-run init w policy.toml
-= accepted 1 init: 0 records, 0 placeholders
-= status 0
+pub const ALL: &str = r#"
+ends 0 init w flat.toml
+
+scenario cells left empty
 file p1.csv
 > id,day,description,brand,category,department,launched,supplier
 > P1,2024-01-01,Cola,Acme,Drinks,Food,2019,North
 > P2,2024-01-01,Tea,,Drinks,Food,2020,
 run load w product p1 p1.csv
 = accepted 2 p1: 2 records, 0 placeholders
-= status 0
 file p2.csv
 > id,day,description,brand,category,department,launched,supplier
 > P1,2024-07-01,Cola,Bolt,Drinks,Food,2019,West
 run load w product p2 p2.csv
 = accepted 3 p2: 1 records, 0 placeholders
-= status 0
 
 # All but the original, which stays; what was empty before stays so; a new member had nothing.
 file list.csv
@@ -31,7 +27,6 @@ run explain w product list.csv
 = mentioned for the first time: product P3
 = line 2: P1: empty, which replaces what was there by (none): description, brand, category, department
 = line 3: P2: empty, which replaces what was there by (none): description, category, department
-= status 0
 
 # Late news: the newest description and supplier stay. Before its first record a member was as in that.
 file list.csv
@@ -44,7 +39,6 @@ run explain w product list.csv
 = line 2: P1: empty, which replaces what was there by (none): brand, category, department
 = line 3: P1: empty, which replaces what was there by (none): brand
 = line 4: P2: empty, which replaces what was there by (none): category, department
-= status 0
 
 # In place of a record of its day; behind one of its own batch, which has left the same out already.
 file list.csv
@@ -55,7 +49,6 @@ run explain w product list.csv
 = would be accepted: 2 records, 0 placeholders
 = line 2: P1: empty, which replaces what was there by (none): brand
 = line 3: P1: empty, which replaces what was there by (none): department
-= status 0
 
 # Another dimension's members have the same numbers.
 file s1.csv
@@ -64,89 +57,26 @@ file s1.csv
 run explain w store s1.csv
 = would be accepted: 1 records, 0 placeholders
 = mentioned for the first time: store S1
-= status 0
 
 # Of 21 records the first 20 are told.
 file cities.csv
 > id,day,city
-> S01,2024-01-01,Bern
-> S02,2024-01-01,Bern
-> S03,2024-01-01,Bern
-> S04,2024-01-01,Bern
-> S05,2024-01-01,Bern
-> S06,2024-01-01,Bern
-> S07,2024-01-01,Bern
-> S08,2024-01-01,Bern
-> S09,2024-01-01,Bern
-> S10,2024-01-01,Bern
-> S11,2024-01-01,Bern
-> S12,2024-01-01,Bern
-> S13,2024-01-01,Bern
-> S14,2024-01-01,Bern
-> S15,2024-01-01,Bern
-> S16,2024-01-01,Bern
-> S17,2024-01-01,Bern
-> S18,2024-01-01,Bern
-> S19,2024-01-01,Bern
-> S20,2024-01-01,Bern
-> S21,2024-01-01,Bern
+>* S{01-21},2024-01-01,Bern
 run load w store s1 cities.csv
 = accepted 4 s1: 21 records, 0 placeholders
-= status 0
 file cities.csv
 > id,day,city
-> S01,2024-02-01,
-> S02,2024-02-01,
-> S03,2024-02-01,
-> S04,2024-02-01,
-> S05,2024-02-01,
-> S06,2024-02-01,
-> S07,2024-02-01,
-> S08,2024-02-01,
-> S09,2024-02-01,
-> S10,2024-02-01,
-> S11,2024-02-01,
-> S12,2024-02-01,
-> S13,2024-02-01,
-> S14,2024-02-01,
-> S15,2024-02-01,
-> S16,2024-02-01,
-> S17,2024-02-01,
-> S18,2024-02-01,
-> S19,2024-02-01,
-> S20,2024-02-01,
-> S21,2024-02-01,
+>* S{01-21},2024-02-01,
 run explain w store cities.csv
 = would be accepted: 21 records, 0 placeholders
-= line 2: S01: empty, which replaces what was there by (none): city
-= line 3: S02: empty, which replaces what was there by (none): city
-= line 4: S03: empty, which replaces what was there by (none): city
-= line 5: S04: empty, which replaces what was there by (none): city
-= line 6: S05: empty, which replaces what was there by (none): city
-= line 7: S06: empty, which replaces what was there by (none): city
-= line 8: S07: empty, which replaces what was there by (none): city
-= line 9: S08: empty, which replaces what was there by (none): city
-= line 10: S09: empty, which replaces what was there by (none): city
-= line 11: S10: empty, which replaces what was there by (none): city
-= line 12: S11: empty, which replaces what was there by (none): city
-= line 13: S12: empty, which replaces what was there by (none): city
-= line 14: S13: empty, which replaces what was there by (none): city
-= line 15: S14: empty, which replaces what was there by (none): city
-= line 16: S15: empty, which replaces what was there by (none): city
-= line 17: S16: empty, which replaces what was there by (none): city
-= line 18: S17: empty, which replaces what was there by (none): city
-= line 19: S18: empty, which replaces what was there by (none): city
-= line 20: S19: empty, which replaces what was there by (none): city
-= line 21: S20: empty, which replaces what was there by (none): city
+=* line {2-21}: S{01-20}: empty, which replaces what was there by (none): city
 = and 1 more
-= status 0
 run status w
 = format 1
 = commands 4
 = changes 24
 = facts 0
 = members product 2 store 21 customer 0
-= status 0
 
 # All kept records are read where a cell is empty: a damaged one is told, whichever member it is of.
 sql w UPDATE change SET day = 0 WHERE command = 4 AND record = 21
@@ -155,22 +85,13 @@ file list.csv
 > P1,2024-08-01,,Bolt,Drinks,Food,2019,East
 run explain w product list.csv
 = failed: E7 damaged, change
-= status 3
 file list.csv
 > id,day,description,brand,category,department,launched,supplier
 > P1,2024-08-01,Cola,Bolt,Drinks,Food,2019,East
 run explain w product list.csv
 = would be accepted: 1 records, 0 placeholders
-= status 0
-"#;
 
-/// Bytes of other code pages, under the policy of `explained::WANTED`.
-pub const CODE_PAGES: &str = r#"
-policy policy.toml
-run init w policy.toml
-= accepted 1 init: 0 records, 0 placeholders
-= status 0
-
+scenario bytes of other code pages
 # As they came from the till: alone, behind a byte that Latin-1 has, too, and with Latin-1 alone.
 bytes c.csv id,day,city\nS1,2024-01-01,Z\x81rich\nS2,2024-01-01,5 \x80\nS3,2024-01-01,\xFC \x84\nS4,2024-01-01,Z\xFCrich\xA0\nS5,2024-01-01,K\x9F\n
 run explain w store c.csv
@@ -180,7 +101,6 @@ run explain w store c.csv
 = line 4, column 3 "city": '\xfc \x84' is no UTF-8 at byte 1; it looks like Windows-1252 or CP850: the byte 84 is „ in Windows-1252, ä in CP850
 = line 5, column 3 "city": 'Z\xfcrich\xa0' is no UTF-8 at byte 2; it looks like Latin-1
 = line 6, column 3 "city": 'K\x9f' is no UTF-8 at byte 2; it looks like Windows-1252 or CP850: the byte 9f is Ÿ in Windows-1252, ƒ in CP850
-= status 2
 bytes h.csv id,day,Stra\xE1e K\x94ln\n
 run explain w store h.csv
 = refused: E3 batch, B2 wrong header, record 0
@@ -188,7 +108,6 @@ run explain w store h.csv
 = wanted: id,day,city
 = there: id,day,Stra\xe1e K\x94ln
 = the file looks like Windows-1252 or CP850: it is no UTF-8 at byte 12
-= status 2
 
 # Made UTF-8 as if they were Latin-1: they are accepted, as the control characters that they then are.
 bytes c.csv id,day,city\r\n\r\nS1,2024-01-01,Z\xC2\x81rich\r\nS2,2024-01-01,Z\xC3\xBCrich\r\nS3,2024-01-01,5 \xC2\x80 \xC2\x84\r\nS4,2024-01-01,\xC2\xA0\xC2\x9F\r\n
@@ -198,12 +117,10 @@ run explain w store c.csv
 = line 3, column 3 "city": 'Z\xc2\x81rich' has a control character at byte 2; the byte 81 is ü in CP850
 = line 5, column 3 "city": '5 \xc2\x80 \xc2\x84' has a control character at byte 3; the byte 80 is € in Windows-1252, Ç in CP850
 = line 6, column 3 "city": '\xc2\xa0\xc2\x9f' has a control character at byte 3; the byte 9f is Ÿ in Windows-1252, ƒ in CP850
-= status 0
 bytes p.csv id,day,description,brand,category,department,launched,supplier\nP1,2024-01-01,K\xC2\x84se,Acme,Drinks,Food,2019,N\xC2\x94rdli\n
 run explain w product p.csv
 = would be accepted: 1 records, 0 placeholders
 = mentioned for the first time: product P1
 = line 2, column 3 "description": 'K\xc2\x84se' has a control character at byte 2; the byte 84 is „ in Windows-1252, ä in CP850
 = line 2, column 8 "supplier": 'N\xc2\x94rdli' has a control character at byte 2; the byte 94 is ” in Windows-1252, ö in CP850
-= status 0
 "#;

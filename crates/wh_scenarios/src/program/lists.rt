@@ -1,24 +1,21 @@
-//! Lists of reports.
+//! Lists of reports, over a warehouse of three commands of the shop.
 
-/// Lists over the files of `reports::FILES`, of which three commands are accepted.
-pub const LISTS: &str = r#"
+pub const ALL: &str = r#"
+scenario reports, what is refused, and what stops the list
 file two.csv
 > product.brand,was,2023-01-01,2026-12-31
 > date.month,is,2024-01-01,2024-12-31
+file none.csv
 run init w policy.toml
 = accepted 1 init: 0 records, 0 placeholders
-= status 0
 run load w product p1 p1.csv
 = accepted 2 p1: 1 records, 0 placeholders
-= status 0
 run load w product p2 p2.csv
 = accepted 3 p2: 1 records, 0 placeholders
-= status 0
 run load w sales s1 s1.csv
 = accepted 4 s1: 2 records, 1 placeholders
-= status 0
 
-# The reports, with an empty line between two; each is what the words of a report print.
+# With an empty line between two; each is what the words of a report print.
 run reports w two.csv
 = report product.brand was 2023-01-01 2026-12-31
 =    lines   quantity         amount           cost         margin  label
@@ -30,20 +27,15 @@ run reports w two.csv
 =    lines   quantity         amount           cost         margin  label
 =        1          2           5.00           3.20           1.80  2024-02
 =        1          2           5.00           3.20           1.80  total
-= status 0
-run report w product.brand was 2023-01-01 2026-12-31
-= report product.brand was 2023-01-01 2026-12-31
+report w product.brand was 2023-01-01 2026-12-31
 =    lines   quantity         amount           cost         margin  label
 =        1          1           2.50           1.60           0.90  Acme
 =        1          2           5.00           3.20           1.80  Bolt
 =        2          3           7.50           4.80           2.70  total
-= status 0
-run report w date.month is 2024-01-01 2024-12-31
-= report date.month is 2024-01-01 2024-12-31
+report w date.month is 2024-01-01 2024-12-31
 =    lines   quantity         amount           cost         margin  label
 =        1          2           5.00           3.20           1.80  2024-02
 =        1          2           5.00           3.20           1.80  total
-= status 0
 
 # The line of a report that is refused stands in its place, and those behind it are answered too.
 file refused.csv
@@ -82,9 +74,7 @@ file one.csv
 run reports w one.csv
 = error: MODE is 'Was', and none of was, is and prior
 = status 2
-file none.csv
 run reports w none.csv
-= status 0
 
 # A bad list is refused whole, before the warehouse is opened.
 file bad.csv
@@ -93,34 +83,26 @@ file bad.csv
 > product.brand
 run reports w bad.csv
 = refused: M1 bad manifest, record 2
-= status 2
 bytes five.csv product.brand,was,2023-01-01,2026-12-31,\n
 run reports w five.csv
 = refused: M1 bad manifest, record 1
-= status 2
 bytes text.csv product.brand,was,2023-01-01,2026-12-31\n\nproduct.brand,was,2023-01-01,\xFF\n
 run reports x text.csv
 = refused: M1 bad manifest, record 2
-= status 2
 run reports x gone.csv
 = failed: F1 file, gone.csv
-= status 3
 run reports p1.csv bad.csv
 = refused: M1 bad manifest, record 2
-= status 2
 
 # No warehouse, with reports and without; none is made.
 run reports x two.csv
 = failed: N1 not a warehouse
-= status 3
 run reports x none.csv
 = failed: N1 not a warehouse
-= status 3
 stands x
 = no
 run reports p1.csv two.csv
 = failed: F1 file, p1.csv
-= status 3
 
 # What stops the list is told in the place of the report that met it, and nothing behind it.
 sql w UPDATE product SET from_day = 20240332
@@ -138,13 +120,8 @@ run reports w stopped.csv
 =        1          2           5.00           3.20           1.80  total
 =
 = failed: E7 damaged, product
-= status 3
 
-# Words that are too few or too many.
-ended reports w
-= a text
-= status 4
-ended reports w two.csv one.csv
-= a text
-= status 4
+scenario words that are too few or too many
+ends 4 reports w
+ends 4 reports w two.csv one.csv
 "#;

@@ -1,7 +1,7 @@
-//! Queries of a warehouse's file, and the records that carry its members to another.
+//! Queries of a warehouse's file, lists of them, and the records that carry its members to another. The expected lines are worked by hand.
 
-/// After the files of `reports`.
-pub const QUERIES: &str = r#"
+pub const ALL: &str = r#"
+scenario queries, lists of them, and records
 file qp.csv
 > id,day,description,brand,category,department,launched,supplier
 > P1,2024-01-01,Cola,Acme,Drinks,Grocery,2019,North
@@ -22,24 +22,20 @@ file qt.csv
 > T2,1,2024-02-10,S2,P1,,3,7.50,4.80
 > T3,1,2024-02-20,S2,P1,C1,1,2.50,1.60
 > T4,1,2024-02-20,S2,P2,C1,-1,-4.50,-2.75
-run init q policy.toml
-= accepted 1 init: 0 records, 0 placeholders
-= status 0
+file qv.csv
+> ticket,line
+> T2,1
+ends 0 init q policy.toml
 run query q 2024-01-01 2024-12-31 product.brand date.month
 = product.brand:was,date.month,lines,quantity,amount,cost,margin
-= status 0
 run load q product p qp.csv
 = accepted 2 p: 3 records, 0 placeholders
-= status 0
 run load q store s qs.csv
 = accepted 3 s: 3 records, 0 placeholders
-= status 0
 run load q customer c qc.csv
 = accepted 4 c: 1 records, 0 placeholders
-= status 0
 run load q sales t qt.csv
 = accepted 5 t: 5 records, 0 placeholders
-= status 0
 
 # By two columns, the first one first.
 run query q 2024-01-01 2024-12-31 product.brand date.month
@@ -48,14 +44,12 @@ run query q 2024-01-01 2024-12-31 product.brand date.month
 = Bolt,2024-02,2,4,10.00,6.40,3.60
 = Leaf,2024-01,1,1,4.50,2.75,1.75
 = Leaf,2024-02,1,-1,-4.50,-2.75,-1.75
-= status 0
 run query q 2024-01-01 2024-12-31 date.month product.brand:was
 = date.month,product.brand:was,lines,quantity,amount,cost,margin
 = 2024-01,Acme,1,2,5.00,3.20,1.80
 = 2024-01,Leaf,1,1,4.50,2.75,1.75
 = 2024-02,Bolt,2,4,10.00,6.40,3.60
 = 2024-02,Leaf,1,-1,-4.50,-2.75,-1.75
-= status 0
 
 # Conditions of two columns hold both, of two of one column any does.
 run query q 2024-01-01 2024-12-31 product.brand --where store.city:was=Bern --where customer.tier=gold
@@ -63,85 +57,61 @@ run query q 2024-01-01 2024-12-31 product.brand --where store.city:was=Bern --wh
 = Acme,1,2,5.00,3.20,1.80
 = Bolt,1,1,2.50,1.60,0.90
 = Leaf,2,0,0.00,0.00,0.00
-= status 0
 run query q 2024-01-01 2024-12-31 product.description store.city --where store.city=Basel --where store.city=Bern --where product.brand=Bolt
 = product.description:was,store.city:was,lines,quantity,amount,cost,margin
 = Cola,Basel,1,3,7.50,4.80,2.70
 = Cola,Bern,1,1,2.50,1.60,0.90
-= status 0
 run query q 2024-01-01 2024-12-31 product.brand --where product.brand=Nobody
 = product.brand:was,lines,quantity,amount,cost,margin
-= status 0
 
 # A label with a comma, printed and asked for; a type without `was`; a column twice.
 run query q 2024-01-15 2024-01-15 product.description
 = product.description:was,lines,quantity,amount,cost,margin
 = Cola,1,2,5.00,3.20,1.80
 = "Tea, green",1,1,4.50,2.75,1.75
-= status 0
 run query q 2024-01-01 2024-12-31 product.brand
 > --where
 > product.description=Tea, green
 = product.brand:was,lines,quantity,amount,cost,margin
 = Leaf,2,0,0.00,0.00,0.00
-= status 0
 run query q 2024-01-15 2024-01-15 product.supplier product.supplier:is
 = product.supplier:is,product.supplier:is,lines,quantity,amount,cost,margin
 = North,North,1,2,5.00,3.20,1.80
 = South,South,1,1,4.50,2.75,1.75
-= status 0
 
 # What can't be asked for: the first column's fault, and then the first condition's.
 run query q 2024-01-01 2024-12-31 product.color
 = refused: G1 no attribute
-= status 2
 run query q 2024-01-01 2024-12-31 product.brand:is product.color
 = refused: G2 no reading, type 2 is
-= status 2
 run query q 2024-12-31 2024-01-01 product.brand
 = refused: G3 bad range
-= status 2
 run query q 2024-01-01 2024-12-31 product.brand --where product.color=red
 = refused: G1 no attribute
-= status 2
 run query nowhere 2024-01-01 2024-12-31 product.brand
 = failed: N1 not a warehouse
-= status 3
 
 # Words that are no query.
 run query q 2024-01-01 2024-12-31 product.brand:then
 = error: BY is 'product.brand:then', and none of ATTRIBUTE and ATTRIBUTE:MODE, with was, is or prior as MODE
-= status 4
 run query q 2024-01-01 2024-12-31 product.brand --where store.city
 = error: --where is 'store.city', and none of ATTRIBUTE=LABEL and ATTRIBUTE:MODE=LABEL, with was, is or prior as MODE
-= status 4
 run query q 2024-01-01 2024-12-31 a b c d e f g
 = error: BY is given more than 6 times
-= status 4
 run query q 2024-01-01 2024-12-31 a --where a=1 --where a=2 --where a=3 --where a=4 --where a=5 --where a=6 --where a=7 --where a=8 --where a=9 --where a=10 --where a=11 --where a=12 --where a=13
 = error: --where is given more than 12 times
-= status 4
 
 # In the second format, with a line that is withdrawn.
 run upgrade q u
 = accepted 6 u: 0 records, 0 placeholders
-= status 0
-file qv.csv
-> ticket,line
-> T2,1
 run load q void v qv.csv
 = accepted 7 v: 1 records, 0 placeholders
-= status 0
 run query q 2024-01-01 2024-12-31 store.city
 = store.city:was,lines,quantity,amount,cost,margin
 = Bern,4,3,7.50,4.80,2.70
-= status 0
-"#;
 
-/// Lists of queries, after those.
-pub const LISTED: &str = r#"
-# The queries, with an empty line between two; each is what the words of a query print. The line of one that is refused stands in its place, and those behind it are answered too. Empty lines and
-# remarks are passed over.
+# Lists of queries, with an empty line between two.
+# Each is what the words of a query print. The line of one that is refused stands in its place, and those behind it are answered too. Empty lines and remarks are passed over.
 file listed.txt
 > # brands by month
 > 2024-01-01 2024-12-31 product.brand date.month
@@ -159,14 +129,12 @@ run queries q listed.txt
 =
 = product.description:was,lines,quantity,amount,cost,margin
 = "Tea, green",1,1,4.50,2.75,1.75
-= status 2
 run query q 2024-01-01 2024-12-31 product.brand date.month
 = product.brand:was,date.month,lines,quantity,amount,cost,margin
 = Acme,2024-01,1,2,5.00,3.20,1.80
 = Bolt,2024-02,1,1,2.50,1.60,0.90
 = Leaf,2024-01,1,1,4.50,2.75,1.75
 = Leaf,2024-02,1,-1,-4.50,-2.75,-1.75
-= status 0
 
 # Other refusals, options in front, more blanks, lines that end as on other systems, a last one without an end, and double quotes within a word.
 bytes blanks.txt 2024-01-01 2024-12-31 product.brand:is\r\n\r\n \x092024-12-31  2024-01-01 product.brand\r\n--where store.city=Bern 2024-01-01 2024-12-31 product.brand\r\n2024-01-01 2024-12-31 product.brand "--where" "product.description=say ""tea"""
@@ -181,7 +149,6 @@ run queries q blanks.txt
 = Leaf,2,0,0.00,0.00,0.00
 =
 = product.brand:was,lines,quantity,amount,cost,margin
-= status 2
 
 # One alone has no empty line, and no query prints nothing.
 file one.txt
@@ -190,15 +157,12 @@ run queries q one.txt
 = date.month,lines,quantity,amount,cost,margin
 = 2024-01,2,3,9.50,5.95,3.55
 = 2024-02,2,0,-2.00,-1.15,-0.85
-= status 0
 file none.txt
 run queries q none.txt
-= status 0
 file remarks.txt
 > # 2024-01-01 2024-12-31 date.month
 >
 run queries q remarks.txt
-= status 0
 
 # A bad list is refused whole, before the warehouse is opened. All its lines are counted.
 file bad.txt
@@ -209,67 +173,52 @@ file bad.txt
 > 2024-01-01
 run queries q bad.txt
 = refused: M1 bad manifest, record 4
-= status 2
 run queries nowhere bad.txt
 = refused: M1 bad manifest, record 4
-= status 2
 run queries p1.csv bad.txt
 = refused: M1 bad manifest, record 4
-= status 2
 file few.txt
 > 2024-01-01 2024-12-31
 run queries q few.txt
 = refused: M1 bad manifest, record 1
-= status 2
 file where.txt
 > 2024-01-01 2024-12-31 product.brand --where store.city
 run queries q where.txt
 = refused: M1 bad manifest, record 1
-= status 2
 file help.txt
 > 2024-01-01 2024-12-31 product.brand --help
 run queries q help.txt
 = refused: M1 bad manifest, record 1
-= status 2
 file seven.txt
 > 2024-01-01 2024-12-31 a b c d e f
 > 2024-01-01 2024-12-31 a b c d e f g
 run queries q seven.txt
 = refused: M1 bad manifest, record 2
-= status 2
 file open.txt
 > 2024-01-01 2024-12-31 product.brand --where "store.city=Bern
 run queries q open.txt
 = refused: M1 bad manifest, record 1
-= status 2
 file within.txt
 > 2024-01-01 2024-12-31 product.brand --where store.city="Bern"
 run queries q within.txt
 = refused: M1 bad manifest, record 1
-= status 2
 bytes text.txt 2024-01-01 2024-12-31 date.month\n2024-01-01 2024-12-31 \xFF\n
 run queries q text.txt
 = refused: M1 bad manifest, record 2
-= status 2
 bytes remark.txt # \xFF\n
 run queries q remark.txt
 = refused: M1 bad manifest, record 1
-= status 2
 long line.txt 65537
 run queries q line.txt
 = refused: M1 bad manifest, record 1
-= status 2
 run queries q gone.txt
 = failed: F1 file, gone.txt
-= status 3
 
 # No warehouse, with queries and without; none is made.
 run queries nowhere one.txt
 = failed: N1 not a warehouse
-= status 3
 run queries nowhere none.txt
 = failed: N1 not a warehouse
-= status 3
 stands nowhere
 = no
 
@@ -283,7 +232,49 @@ session q
 = status 0
 = refused: M1 bad manifest, record 4
 = status 2
-= status 2
+
+# Words that are too few or too many.
+ends 4 queries q
+ends 4 queries q one.txt none.txt
+
+# Records for another file.
+run records q store
+= id,day,city
+= S1,2024-01-01,Bern
+= S2,2024-01-01,Basel
+= S2,2024-02-15,Bern
+run records q store 2
+= id,day,city
+= S2,2024-02-15,Bern
+run records q store 3
+= id,day,city
+run records q store 999999999
+= id,day,city
+
+# A record of an earlier day says another year than the first that was accepted: that goes before the dated ones, in a batch of its own.
+file ql.csv
+> id,day,description,brand,category,department,launched,supplier
+> P2,2023-06-01,Tea,Leaf,Drinks,Grocery,2018,South
+run load q product l ql.csv
+= accepted 8 l: 1 records, 0 placeholders
+run records q product
+= id,day,description,brand,category,department,launched,supplier
+= P2,2023-06-01,"Tea, green",Leaf,Drinks,Grocery,2020,South
+run records q product 1
+= id,day,description,brand,category,department,launched,supplier
+= P1,2024-01-01,Cola,Acme,Drinks,Grocery,2019,North
+= P1,2024-02-01,Cola,Bolt,Drinks,Grocery,2019,North
+= P2,2023-06-01,Tea,Leaf,Drinks,Grocery,2018,South
+= P2,2024-01-01,"Tea, green",Leaf,Drinks,Grocery,2020,South
+
+run records q stores
+= error: DIMENSION is 'stores', and none of product, store and customer
+run records q store x
+= error: FROM is 'x', and none of the numbers 0 to 999999999
+run records q store 1000000000
+= error: FROM is '1000000000', and none of the numbers 0 to 999999999
+run records nowhere store
+= failed: N1 not a warehouse
 
 # What stops the list is told in the place of the query that met it, and nothing behind it.
 sql q UPDATE product SET from_day = 20240332
@@ -300,72 +291,9 @@ run queries q stopped.txt
 = 2024-02,2,0,-2.00,-1.15,-0.85
 =
 = failed: E7 damaged, product
-= status 3
 
-# Words that are too few or too many.
-ended queries q
-= a text
-= status 4
-ended queries q one.txt none.txt
-= a text
-= status 4
-"#;
-
-/// After `QUERIES`.
-pub const RECORDS: &str = r#"
-run records q store
-= id,day,city
-= S1,2024-01-01,Bern
-= S2,2024-01-01,Basel
-= S2,2024-02-15,Bern
-= status 0
-run records q store 2
-= id,day,city
-= S2,2024-02-15,Bern
-= status 0
-run records q store 3
-= id,day,city
-= status 0
-run records q store 999999999
-= id,day,city
-= status 0
-
-# A record of an earlier day says another year than the first that was accepted: that goes before the dated ones, in a batch of its own.
-file ql.csv
-> id,day,description,brand,category,department,launched,supplier
-> P2,2023-06-01,Tea,Leaf,Drinks,Grocery,2018,South
-run load q product l ql.csv
-= accepted 8 l: 1 records, 0 placeholders
-= status 0
-run records q product
-= id,day,description,brand,category,department,launched,supplier
-= P2,2023-06-01,"Tea, green",Leaf,Drinks,Grocery,2020,South
-= status 0
-run records q product 1
-= id,day,description,brand,category,department,launched,supplier
-= P1,2024-01-01,Cola,Acme,Drinks,Grocery,2019,North
-= P1,2024-02-01,Cola,Bolt,Drinks,Grocery,2019,North
-= P2,2023-06-01,Tea,Leaf,Drinks,Grocery,2018,South
-= P2,2024-01-01,"Tea, green",Leaf,Drinks,Grocery,2020,South
-= status 0
-
-run records q stores
-= error: DIMENSION is 'stores', and none of product, store and customer
-= status 4
-run records q store x
-= error: FROM is 'x', and none of the numbers 0 to 999999999
-= status 4
-run records q store 1000000000
-= error: FROM is '1000000000', and none of the numbers 0 to 999999999
-= status 4
-run records nowhere store
-= failed: N1 not a warehouse
-= status 3
-"#;
-
-/// Worked by hand: a cola becomes another brand's in February, and one of two cities has to be quoted. Then two lines are withdrawn in format 2.
-pub const WORKED: &str = r#"
-policy flat.toml
+# A cola becomes another brand's in February, and one of two cities has to be quoted. Then two lines are withdrawn in format 2.
+scenario a slice, and two formats
 file k-st.csv
 > id,day,city
 > S1,2023-01-01,"Bern, Gare"
@@ -384,21 +312,15 @@ file k-s1.csv
 > T3,1,2024-02-10,S2,P1,,3,7.50,4.80
 > T4,1,2024-02-20,S1,P9,,1,10.00,7.00
 > T5,1,2024-02-29,S1,P1,,4,10.00,6.40
-run init k flat.toml
-= accepted 1 init: 0 records, 0 placeholders
-= status 0
+ends 0 init k flat.toml
 run load k store st k-st.csv
 = accepted 2 st: 2 records, 0 placeholders
-= status 0
 run load k product p1 k-p1.csv
 = accepted 3 p1: 2 records, 0 placeholders
-= status 0
 run load k product p2 k-p2.csv
 = accepted 4 p2: 1 records, 0 placeholders
-= status 0
 run load k sales s1 k-s1.csv
 = accepted 5 s1: 5 records, 0 placeholders
-= status 0
 
 # brand by month of one shop alone
 run query k 2024-01-01 2024-12-31 product.brand:was date.month
@@ -408,7 +330,6 @@ run query k 2024-01-01 2024-12-31 product.brand:was date.month
 = Acme,2024-02,2,6,15.00,9.60,5.40
 = Bolt,2024-01,1,1,2.50,1.60,0.90
 = Leaf,2024-02,1,1,10.00,7.00,3.00
-= status 0
 # two labels of one column, and one of another
 run query k 2024-01-01 2024-12-31 store.city:was --where store.city:was=Genf --where product.brand:was=Acme
 > --where
@@ -416,14 +337,11 @@ run query k 2024-01-01 2024-12-31 store.city:was --where store.city:was=Genf --w
 = store.city:was,lines,quantity,amount,cost,margin
 = "Bern, Gare",2,6,15.00,9.60,5.40
 = Genf,1,3,7.50,4.80,2.70
-= status 0
 # no sale is in the slice
 run query k 2024-01-01 2024-12-31 product.brand:was --where store.city:was=Genf --where product.brand:was=Leaf
 = product.brand:was,lines,quantity,amount,cost,margin
-= status 0
 run check k
 = clean
-= status 0
 
 # In format 2 the lines that stand count, and no discount is taken off.
 file k-s2.csv
@@ -436,13 +354,10 @@ file k-v1.csv
 > T6,2
 run upgrade k u1
 = accepted 6 u1: 0 records, 0 placeholders
-= status 0
 run load k sales s2 k-s2.csv
 = accepted 7 s2: 2 records, 0 placeholders
-= status 0
 run load k void v1 k-v1.csv
 = accepted 8 v1: 2 records, 0 placeholders
-= status 0
 run query k 2024-01-01 2024-12-31 product.brand:was date.month
 > --where
 > store.city:was=Bern, Gare
@@ -450,19 +365,17 @@ run query k 2024-01-01 2024-12-31 product.brand:was date.month
 = Acme,2024-02,1,4,10.00,6.40,3.60
 = Bolt,2024-01,1,1,2.50,1.60,0.90
 = Leaf,2024-02,1,1,10.00,7.00,3.00
-= status 0
 run query k 2024-02-01 2024-03-31 store.city:was product.brand:was
 = store.city:was,product.brand:was,lines,quantity,amount,cost,margin
 = "Bern, Gare",Acme,1,4,10.00,6.40,3.60
 = "Bern, Gare",Leaf,1,1,10.00,7.00,3.00
 = Genf,Acme,1,3,7.50,4.80,2.70
 = Genf,Leaf,1,2,18.00,14.00,4.00
-= status 0
 run check k
 = clean
-= status 0
 
-# Columns of each type, two and three at once: 2 and 6; 6 and 7 as they are; 1, 0 and 3; 5 as it was and is, beside the holiday. No record has P9 or the store, and the cola's supplier has an equals sign.
+scenario columns of each type, two and three at once
+# 2 and 6; 6 and 7 as they are; 1, 0 and 3; 5 as it was and is, beside the holiday. No record has P9 or the store, and the cola's supplier has an equals sign.
 file y-p.csv
 > id,day,description,brand,category,department,launched,supplier
 > P1,2024-01-01,Cola,Acme,Drinks,Grocery,2019,North
@@ -476,50 +389,39 @@ file y-t.csv
 > T1,1,2024-01-15,S1,P1,C1,2,5.00,3.20
 > T2,1,2024-02-15,S1,P1,,1,2.50,1.60
 > T3,1,2024-12-25,S1,P9,C1,4,10.00,6.40
-run init y policy.toml
-= accepted 1 init: 0 records, 0 placeholders
-= status 0
+ends 0 init y policy.toml
 run load y product p y-p.csv
 = accepted 2 p: 2 records, 0 placeholders
-= status 0
 run load y customer c y-c.csv
 = accepted 3 c: 2 records, 0 placeholders
-= status 0
 run load y sales t y-t.csv
 = accepted 4 t: 3 records, 2 placeholders
-= status 0
 run query y 2024-01-01 2024-12-31 product.brand product.category:was
 = product.brand:was,product.category:was,lines,quantity,amount,cost,margin
 = (unknown),(unknown),1,4,10.00,6.40,3.60
 = Acme,Drinks,1,2,5.00,3.20,1.80
 = Bolt,Soft drinks,1,1,2.50,1.60,0.90
-= status 0
 run query y 2024-01-01 2024-12-31 product.category:is product.department:was product.department:is
 = product.category:is,product.department:was,product.department:is,lines,quantity,amount,cost,margin
 = (unknown),(unknown),(unknown),1,4,10.00,6.40,3.60
 = Soft drinks,Bottles,Bottles,1,1,2.50,1.60,0.90
 = Soft drinks,Grocery,Bottles,1,2,5.00,3.20,1.80
-= status 0
 run query y 2024-01-01 2024-12-31 product.description product.launched product.supplier:prior
 = product.description:was,product.launched:was,product.supplier:prior,lines,quantity,amount,cost,margin
 = (unknown),(unknown),(none),1,4,10.00,6.40,3.60
 = Cola 1 l,2019,North,2,3,7.50,4.80,2.70
-= status 0
 run query y 2024-01-01 2024-12-31 customer.age_band:was customer.age_band:is date.holiday
 = customer.age_band:was,customer.age_band:is,date.holiday,lines,quantity,amount,cost,margin
 = (no card),(no card),(none),1,1,2.50,1.60,0.90
 = 20-29,30-39,(none),1,2,5.00,3.20,1.80
 = 30-39,30-39,Christmas Day,1,4,10.00,6.40,3.60
-= status 0
 run query y 2024-01-01 2024-12-31 store.city date.month --where product.supplier:is=South=East
 = store.city:was,date.month,lines,quantity,amount,cost,margin
 = (unknown),2024-01,1,2,5.00,3.20,1.80
 = (unknown),2024-02,1,1,2.50,1.60,0.90
-= status 0
-"#;
 
-/// Tables, after those. Worked by hand: a description of more than 24 characters with quotes and a comma, a city with an umlaut, and a brand that is called as the last line is.
-pub const TABLES: &str = r#"
+# A description of more than 24 characters with quotes and a comma, a city with an umlaut, and a brand that is called as the last line is.
+scenario tables
 file a-st.csv
 > id,day,city
 > S1,2023-01-01,"Bern, Gare"
@@ -534,22 +436,16 @@ file a-s.csv
 > T1,2,2024-01-15,S1,P2,,1,3.50,1.15
 > T2,1,2024-02-10,S2,P1,,-1,-9.50,-6.20
 > T3,1,2024-02-20,S2,P2,,4,14.00,4.60
-run init a flat.toml
-= accepted 1 init: 0 records, 0 placeholders
-= status 0
+ends 0 init a flat.toml
 run query a 2024-01-01 2024-12-31 date.month --table
 =    lines   quantity         amount           cost         margin  date.month
 =        0          0           0.00           0.00           0.00  total
-= status 0
 run load a store st a-st.csv
 = accepted 2 st: 2 records, 0 placeholders
-= status 0
 run load a product p a-p.csv
 = accepted 3 p: 2 records, 0 placeholders
-= status 0
 run load a sales s a-s.csv
 = accepted 4 s: 4 records, 0 placeholders
-= status 0
 
 # Labels side by side, each but the last at the left of 24 characters.
 run query a 2024-01-01 2024-12-31 product.description store.city --table
@@ -559,7 +455,6 @@ run query a 2024-01-01 2024-12-31 product.description store.city --table
 =        1          1           3.50           1.15           2.35  Tea                      Bern, Gare
 =        1          4          14.00           4.60           9.40  Tea                      Zürich
 =        4          6          27.00          11.95          15.05  total
-= status 0
 run query --table a 2024-01-01 2024-12-31 store.city product.brand
 =    lines   quantity         amount           cost         margin  store.city:was           product.brand:was
 =        1          2          19.00          12.40           6.60  Bern, Gare               Acme
@@ -567,7 +462,6 @@ run query --table a 2024-01-01 2024-12-31 store.city product.brand
 =        1         -1          -9.50          -6.20          -3.30  Zürich                   Acme
 =        1          4          14.00           4.60           9.40  Zürich                   total
 =        4          6          27.00          11.95          15.05  total
-= status 0
 
 # By one column its lines are those of the report.
 run query a 2024-01-01 2024-12-31 product.brand --table
@@ -575,14 +469,11 @@ run query a 2024-01-01 2024-12-31 product.brand --table
 =        2          1           9.50           6.20           3.30  Acme
 =        2          5          17.50           5.75          11.75  total
 =        4          6          27.00          11.95          15.05  total
-= status 0
-run report a product.brand was 2024-01-01 2024-12-31
-= report product.brand was 2024-01-01 2024-12-31
+report a product.brand was 2024-01-01 2024-12-31
 =    lines   quantity         amount           cost         margin  label
 =        2          1           9.50           6.20           3.30  Acme
 =        2          5          17.50           5.75          11.75  total
 =        4          6          27.00          11.95          15.05  total
-= status 0
 
 # Of a slice, of one without a sale, and of none that can be asked for.
 run query a 2024-01-01 2024-12-31 date.month --table --where product.brand=Acme
@@ -590,17 +481,13 @@ run query a 2024-01-01 2024-12-31 date.month --table --where product.brand=Acme
 =        1          2          19.00          12.40           6.60  2024-01
 =        1         -1          -9.50          -6.20          -3.30  2024-02
 =        2          1           9.50           6.20           3.30  total
-= status 0
 run query a 2024-01-01 2024-12-31 product.brand store.city --where product.brand=Nobody --table
 =    lines   quantity         amount           cost         margin  product.brand:was        store.city:was
 =        0          0           0.00           0.00           0.00  total
-= status 0
 run query a 2024-01-01 2024-12-31 product.color --table
 = refused: G1 no attribute
-= status 2
 run query a 2024-01-01 2024-12-31 product.brand --where store.city --table
 = error: --where is 'store.city', and none of ATTRIBUTE=LABEL and ATTRIBUTE:MODE=LABEL, with was, is or prior as MODE
-= status 4
 
 # In format 2, with a line that is withdrawn.
 file a-v.csv
@@ -608,14 +495,11 @@ file a-v.csv
 > T1,1
 run upgrade a u
 = accepted 5 u: 0 records, 0 placeholders
-= status 0
 run load a void v a-v.csv
 = accepted 6 v: 1 records, 0 placeholders
-= status 0
 run query a 2024-01-01 2024-12-31 date.month --table
 =    lines   quantity         amount           cost         margin  date.month
 =        1          1           3.50           1.15           2.35  2024-01
 =        2          3           4.50          -1.60           6.10  2024-02
 =        3          4           8.00          -0.45           8.45  total
-= status 0
 "#;

@@ -1,11 +1,11 @@
 //! What `views` prints, under policies with attributes of each type. The expected lines are worked by hand.
 
-pub const VIEWS: &str = r#"
+pub const ALL: &str = r#"
+scenario attributes of each type, in both formats
 # The products have types 1, 2, 6, 7, 0 and 3; the customers 2 and 5.
 policy five.toml name = "tier"|type = 2 -> name = "tier"|type = 2|[[customer]]|name = "band"|type = 5
 run init w five.toml
 = accepted 1 init: 0 records, 0 placeholders
-= status 0
 run views w
 = CREATE TEMP VIEW sales_as_was AS
 = SELECT
@@ -79,16 +79,13 @@ run views w
 = FROM fact
 = JOIN calendar ON calendar.date_key = fact.day
 = GROUP BY substr(calendar.iso, 1, 7);
-= status 0
 
 # A newer policy has another type in each place but the first: 1, 0, 3, 2, 6 and 7, and for the customers 4 and 1. Then comes the second format.
 policy four.toml name = "tier"|type = 2 -> name = "tier"|type = 4|[[customer]]|name = "band"|type = 1 and name = "brand"|type = 2 -> name = "brand"|type = 0 and name = "category"|type = 6 -> name = "category"|type = 3 and name = "department"|type = 7 -> name = "department"|type = 2 and name = "launched"|type = 0 -> name = "launched"|type = 6 and name = "supplier"|type = 3 -> name = "supplier"|type = 7
 run migrate w m1 four.toml
 = accepted 2 m1: 0 records, 0 placeholders
-= status 0
 run upgrade w u1
 = accepted 3 u1: 0 records, 0 placeholders
-= status 0
 run views w
 = CREATE TEMP VIEW sales_as_was AS
 = SELECT
@@ -164,18 +161,14 @@ run views w
 = FROM fact2 AS fact
 = JOIN calendar ON calendar.date_key = fact.day
 = GROUP BY substr(calendar.iso, 1, 7);
-= status 0
 
-# Where nothing is opened.
+scenario where nothing is opened
 run views v
 = failed: N1 not a warehouse
-= status 3
-run views five.toml
-= failed: F1 file, five.toml
-= status 3
+run views flat.toml
+= failed: F1 file, flat.toml
 session v
 > views
 = failed: N1 not a warehouse
-= status 3
 = status 3
 "#;

@@ -1,7 +1,8 @@
 //! Batches, manifests and lists of reports, as their bytes are read.
 
-/// Batches for dimensions.
-pub const DIMENSIONS: &str = r#"
+pub const ALL: &str = r#"
+# Batches for dimensions.
+scenario batches for dimensions
 # A record: id day|attributes, each with a bar behind it.
 batch product id,day,description,brand\nP1,2024-02-01,Cola 1l,\nP.1-_x,1900-01-01,"Cola, ""1l""",Acme\n
 = P1 20240201|Cola 1l|(none)|
@@ -106,10 +107,9 @@ any store S1,2024-01-05,Oslo\n
 = of a dimension 1
 made customer
 = C9 19000101|
-"#;
 
-/// Batches of sales.
-pub const SALES: &str = r#"
+# Batches of sales.
+scenario batches of sales
 # A record: ticket line day store product customer quantity amount cost, and a discount that is not 0.
 rows sales T1,0001,2024-01-05,S1,P1,C9,-0099,12.5,1
 = T1 1 20240105 S1 P1 C9 -99 1250 100
@@ -255,10 +255,9 @@ many sales 5000 ,
 = 5001 TooLarge
 made sales
 = T1 1 99991231 S1 P1 - -1 -250 -160
-"#;
 
-/// Batches of voids.
-pub const VOIDS: &str = r#"
+# Batches of voids.
+scenario batches of voids
 # A record: ticket line.
 batch void ticket,line\nT5,1\nT6,12\n
 = T5 1
@@ -376,10 +375,9 @@ any void T5,1\nT5,2
 = of voids 2
 made void
 = T1 9999
-"#;
 
-/// Batches with faults, as files that were exported have them.
-pub const LISTED: &str = r#"
+# Batches with faults, as files that were exported have them.
+scenario faults of batches
 # Semicolons for commas, in the header and below it.
 faults sales 20 ticket;line;day;store;product;customer;quantity;amount;cost\nT1;1;05.01.2024;S1;P1;;1;1,50;1\n
 = 0 1 0 WrongHeader|ticket;line;day;store;product;customer;quantity;amount;cost
@@ -445,26 +443,7 @@ faults sales 20 ticket,line,day,store,product,customer,quantity,amount,cost\nT5,
 
 # Of thirty faults twenty are listed; of one none.
 faults customer 20 id,day,tier\nC1\nC1\nC1\nC1\nC1\nC1\nC1\nC1\nC1\nC1\nC1\nC1\nC1\nC1\nC1\nC1\nC1\nC1\nC1\nC1\nC1\nC1\nC1\nC1\nC1\nC1\nC1\nC1\nC1\nC1\n
-= 1 2 - WrongLength
-= 2 3 - WrongLength
-= 3 4 - WrongLength
-= 4 5 - WrongLength
-= 5 6 - WrongLength
-= 6 7 - WrongLength
-= 7 8 - WrongLength
-= 8 9 - WrongLength
-= 9 10 - WrongLength
-= 10 11 - WrongLength
-= 11 12 - WrongLength
-= 12 13 - WrongLength
-= 13 14 - WrongLength
-= 14 15 - WrongLength
-= 15 16 - WrongLength
-= 16 17 - WrongLength
-= 17 18 - WrongLength
-= 18 19 - WrongLength
-= 19 20 - WrongLength
-= 20 21 - WrongLength
+=* {1-20} {2-21} - WrongLength
 = 10 more
 faults customer 0 id,day,tier\nC1\n
 = 1 more
@@ -515,10 +494,9 @@ columns discounted
 columns early
 = ticket Ticket
 = line Line
-"#;
 
-/// Manifests of deliveries.
-pub const MANIFESTS: &str = r#"
+# Manifests of deliveries.
+scenario manifests of deliveries
 # LF, CR and CRLF end a record, blank lines are none, and a byte order mark in front isn't a part of the first word.
 manifest product,p1,p1.csv\nsales,s1,s1.csv\nmigrate,m1,m1.toml\n
 = product p1 p1.csv
@@ -586,10 +564,9 @@ manifest product,p1,p1.csv\nsales,s\xC3,s1.csv
 = 2 is none
 manifest product,p1,\xED\xA0\x80
 = 1 is none
-"#;
 
-/// Lists of reports.
-pub const REPORT_LISTS: &str = r#"
+# Lists of reports.
+scenario lists of reports
 # LF, CR and CRLF end a record, blank lines are none, and a byte order mark in front isn't a part of the first attribute.
 reports product.brand,was,2024-01-01,2024-12-31\ndate.month,is,2023-01-01,2023-12-31\n
 = product.brand|was|2024-01-01|2024-12-31

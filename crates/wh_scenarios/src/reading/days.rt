@@ -1,6 +1,7 @@
 //! Days, texts and the rows of the calendar.
 
-pub const DAYS: &str = r#"
+pub const ALL: &str = r#"
+scenario days
 day 2024-02-29
 = 20240229
 day 2023-02-29
@@ -34,9 +35,8 @@ compare 2024-02-29 2024-03-01
 = earlier
 latest 2024-02-29 2024-03-01 2024-02-29
 = 20240301
-"#;
 
-pub const TEXTS: &str = r#"
+scenario texts
 value Cola 1l
 = Cola 1l
 value
@@ -62,9 +62,8 @@ key 32 S 1
 = no key
 debug 4 P.-_
 = Some("P.-_")
-"#;
 
-pub const CALENDAR: &str = r#"
+scenario calendar
 holiday 20241225
 = Christmas Day
 holiday first

@@ -1,6 +1,7 @@
 //! The histories of members: their rows, and what a record changes in them.
 
-pub const HISTORIES: &str = r#"
+pub const ALL: &str = "
+scenario histories
 # A record comes late: the row of the second day ends, and one begins on the day between.
 types 1 2 6 7 0 3
 member P1 1 1
@@ -73,9 +74,8 @@ member C8 2 4
 render customer
 = surrogate,from_day,to_day,is_current,a1,a2,a3,a4,a5,a6,b1,b2,b3,b4,b5,b6,profile_now
 = 4,19000101,99991231,1,(unknown),,,,,,,,,,,,1
-"#;
 
-pub const TABLES_AND_PLANS: &str = r#"
+scenario tables and plans
 record P1 20240110 Cola 1l,Acme
 record P1 20240201 Cola 1.0l,Bolt
 trial product
@@ -124,4 +124,4 @@ plan
 = remove 3
 = put 4
 = moved T1 4
-"#;
+";

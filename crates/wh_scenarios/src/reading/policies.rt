@@ -1,7 +1,8 @@
 //! Policies: what is wrong with a file, and what a good one says.
 
-/// What good files say.
-pub const CONTENTS: &str = r#"
+pub const ALL: &str = r#"
+# What good files say.
+scenario contents of policies
 slots flat product
 = 6 Overwrite NewRow NewRowAndOverwrite DualKeys RetainOriginal NewAttribute
 slots flat store
@@ -100,10 +101,9 @@ fits "supplier" -> "maker"
 = doesn't, doesn't
 fits "brand" -> "-" and "category" -> "brand" and "-" -> "category"
 = doesn't, doesn't
-"#;
 
-/// What is wrong with a file, one thing at a time.
-pub const FAULTS: &str = r#"
+# What is wrong with a file, one thing at a time.
+scenario faults of policies
 # A change of one line.
 with type = 1 -> type = 8
 = BadType
@@ -317,10 +317,9 @@ holidays [1]
 = BadHoliday
 holidays [[]]
 = BadHoliday
-"#;
 
-/// Which of two faults is the answer.
-pub const ORDER: &str = r#"
+# Which of two faults is the answer.
+scenario order of faults
 # Of two things that are wrong with a file the first in this order is told.
 with Day"| -> and first_year -> note
 = NotToml
@@ -380,10 +379,9 @@ holidays [{ day = '2024-01-01', name = '' }, { day = 1 }]
 = BadHoliday
 holidays [{ note = 1 }, 1]
 = BadHoliday
-"#;
 
-/// Files of any bytes.
-pub const BYTES: &str = r#"
+# Files of any bytes.
+scenario bytes of files
 # FLAT is a policy from its customer's type on (339 bytes), with the end of that line, and again with its holiday's name
 # (393 bytes), with the end of that line. In between a line or the holiday isn't whole.
 beginnings

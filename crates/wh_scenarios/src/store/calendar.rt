@@ -1,6 +1,7 @@
 //! The days of four years.
 
-pub const DAYS: &str = "
+pub const ALL: &str = "
+scenario days of four years
 # Three years of 365 days and one of 366. The days are counted from 0.
 warehouse
 write

@@ -1,7 +1,8 @@
 //! Values out of their types, values at their edges, and columns that are missing.
 
-/// The answer is how many values were tried: each is read if it is good, and else answered as damaged.
-pub const SMALL_TABLES: &str = "
+pub const ALL: &str = "
+# The answer is how many values were tried: each is read if it is good, and else answered as damaged.
+scenario columns of the small tables
 # Values: 10 of number_key, 14 of id, 17 of kind, 10 of bytes, 2 times 14 of number.
 columns command (7, 'c-7', 'sales', x'00ff', 3, 1)
 > number number_key
@@ -28,28 +29,17 @@ columns change (7, 3, 2, 5, 20240229, 8, 'Bern', '(none)', '', '', '', '')
 > durable number
 > day day
 > anchor number
-> v1 slot
-> v2 slot
-> v3 slot
-> v4 slot
-> v5 slot
-> v6 slot
+>* v{1-6} slot
 = 257
 
 # Values: 10 of number_key, 6 times 27 of slot.
 columns profile (2, '', '30-39', 'high', '', '', '')
 > number number_key
-> v1 slot
-> v2 slot
-> v3 slot
-> v4 slot
-> v5 slot
-> v6 slot
+>* v{1-6} slot
 = 172
-";
 
-/// The answer is how many values were tried: each is read if it is good, and else answered as damaged.
-pub const DIMENSIONS: &str = "
+# The answer is how many values were tried: each is read if it is good, and else answered as damaged.
+scenario columns of the dimensions
 # Values: 10 of number_key, 2 times 14 of number, 19 of natural, 2 times 26 of day, 11 of flag, 12 times 27 of slot.
 columns product (3, 1, 'P1', 20240201, 99991231, 1, 'Cola', '(none)', '', '', '', '', '', '', '', '', '', '', 0)
 > surrogate number_key
@@ -58,18 +48,8 @@ columns product (3, 1, 'P1', 20240201, 99991231, 1, 'Cola', '(none)', '', '', ''
 > from_day day
 > to_day day
 > is_current flag
-> a1 slot
-> a2 slot
-> a3 slot
-> a4 slot
-> a5 slot
-> a6 slot
-> b1 slot
-> b2 slot
-> b3 slot
-> b4 slot
-> b5 slot
-> b6 slot
+>* a{1-6} slot
+>* b{1-6} slot
 > profile_now number
 = 444
 
@@ -81,18 +61,8 @@ columns store (3, 1, 'P1', 20240201, 99991231, 1, 'Cola', '(none)', '', '', '', 
 > from_day day
 > to_day day
 > is_current flag
-> a1 slot
-> a2 slot
-> a3 slot
-> a4 slot
-> a5 slot
-> a6 slot
-> b1 slot
-> b2 slot
-> b3 slot
-> b4 slot
-> b5 slot
-> b6 slot
+>* a{1-6} slot
+>* b{1-6} slot
 > profile_now number
 = 444
 
@@ -104,18 +74,8 @@ columns customer (3, 1, 'P1', 20240201, 99991231, 1, 'Cola', '(none)', '', '', '
 > from_day day
 > to_day day
 > is_current flag
-> a1 slot
-> a2 slot
-> a3 slot
-> a4 slot
-> a5 slot
-> a6 slot
-> b1 slot
-> b2 slot
-> b3 slot
-> b4 slot
-> b5 slot
-> b6 slot
+>* a{1-6} slot
+>* b{1-6} slot
 > profile_now number
 = 444
 
@@ -129,10 +89,9 @@ columns product (0, 0, 'C1', 19000101, 99991231, 1, '(no card)', '', '', '', '',
 columns store (0, 0, 'C1', 19000101, 99991231, 1, '(no card)', '', '', '', '', '', '', '', '', '', '', '', 0)
 > natural not_no_card
 = 1
-";
 
-/// The answer is how many values were tried: each is read if it is good, and else answered as damaged.
-pub const DAYS_AND_FACTS: &str = "
+# The answer is how many values were tried: each is read if it is good, and else answered as damaged.
+scenario columns of calendar and fact
 # Values: 15 of day_key, 3 times 10 of any_text, 6 times 11 of any_number, 11 of flag.
 columns calendar (20240229, '2024-02-29', 2024, 1, 2, 29, 60, 4, 'Thursday', 0, '(none)')
 > date_key day_key
@@ -164,10 +123,9 @@ columns fact ('T1', 1, 20240610, 1, 9, 1, 1, 2, 1, 1, -1, 1000, 700)
 > amount amount
 > cost amount
 = 190
-";
 
-/// Without each of its columns no warehouse is found, so often as a table has columns, and with all of them one is.
-pub const MISSED: &str = "
+# Without each of its columns no warehouse is found, so often as a table has columns, and with all of them one is.
+scenario each column is missed
 # How many columns a table has: without each in turn there is no warehouse.
 missed meta name value
 = 2
@@ -199,9 +157,8 @@ missed calendar date_key iso year quarter month day day_of_year weekday weekday_
 missed fact ticket line day store_key product_key customer_key store_durable product_durable customer_durable profile quantity amount cost
 = 13
 = whole
-";
 
-pub const META: &str = "
+scenario rows of meta
 # Meta with bad values.
 opens INSERT INTO meta VALUES (x'6e', 1)
 = opened
@@ -252,9 +209,8 @@ opens INSERT INTO meta VALUES ('', -9223372036854775808), ('Any, (é)', 92233720
 = opened
 length meta
 = 6
-";
 
-pub const LIMITS: &str = "
+scenario limits in meta
 # Neither a missing number is a limit, nor one of these.
 opens DELETE FROM meta WHERE name = 'commands_max'
 = opened

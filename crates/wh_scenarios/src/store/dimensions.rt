@@ -1,6 +1,7 @@
 //! The three tables of dimensions, by the calls that run one statement.
 
-pub const PRODUCTS: &str = "
+pub const ALL: &str = "
+scenario products
 empty BEGIN
 create
 # Two rows of the member 1 and one of the member 2, not in the order of their keys.
@@ -52,9 +53,8 @@ count customer
 = 0
 dim product
 = product
-";
 
-pub const STORES: &str = "
+scenario stores
 empty BEGIN
 create
 # Two rows of the member 1 and one of the member 2, not in the order of their keys.
@@ -106,9 +106,8 @@ count customer
 = 0
 dim store
 = store
-";
 
-pub const CUSTOMERS: &str = "
+scenario customers
 empty BEGIN
 create
 # Two rows of the member 1 and one of the member 2, not in the order of their keys.

@@ -1,6 +1,7 @@
 //! Warehouses are made where the ten names are free.
 
-pub const MAKING: &str = "
+pub const ALL: &str = "
+scenario warehouses are made
 # A warehouse with small limits, and opened again.
 makes
 = free
@@ -61,9 +62,8 @@ makes
 # Inside a transaction.
 makes BEGIN
 = refused disk
-";
 
-pub const TAKEN: &str = "
+scenario names that are taken
 # No table may have one of the ten names.
 makes CREATE TABLE meta (x)
 = not empty

@@ -1,6 +1,7 @@
 //! Which databases are taken for a warehouse.
 
-pub const OPENING: &str = "
+pub const ALL: &str = "
+scenario which databases are warehouses
 # The format.
 opens UPDATE meta SET value = 1 WHERE name = 'format'
 = opened

@@ -1,6 +1,7 @@
 //! Questions about rows that were put by the calls that run one statement.
 
-pub const RECORDS: &str = "
+pub const ALL: &str = "
+scenario records of members and days
 empty BEGIN
 create
 anchor store
@@ -28,9 +29,8 @@ anchor store
 = 10
 anchor product
 = 0
-";
 
-pub const COMMANDS: &str = "
+scenario commands
 empty BEGIN
 create
 put command 1, 'first', 'sales', x'00ff2c0a', 0, 2
@@ -40,9 +40,8 @@ command third
 = command number, id, kind, bytes, records, placeholders
 = command 3, 'third', 'sales', x'00ff2c0a', 0, 2
 command Third
-";
 
-pub const MEMBERS: &str = "
+scenario members
 empty BEGIN
 create
 put member 2, 2, 'S2', 1
@@ -63,9 +62,8 @@ greatest member product
 = member dim, durable, natural, opening
 = member 1, 7, 'M1', 1
 greatest member customer
-";
 
-pub const SALES: &str = "
+scenario sales of members
 empty BEGIN
 create
 put fact 'T-1', 30, 20240610, 1, 9, 0, 2, 1, 3, 3, -9999, -999999999, 999999999
@@ -185,9 +183,8 @@ sales product 2 20240609 20240611, 1 20240609 20240611
 = fact ticket, line, day, store_key, product_key, customer_key, store_durable, product_durable, customer_durable, profile, quantity, amount, cost
 = fact 'T-1', 1, 20240609, 1, 9, 0, 1, 1, 1, 3, 1, 200, 300
 = fact 'T-1', 2, 20240610, 1, 9, 0, 1, 2, 1, 3, 1, 200, 300
-";
 
-pub const PROFILES: &str = "
+scenario profiles
 empty BEGIN
 create
 greatest profile

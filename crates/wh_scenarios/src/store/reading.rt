@@ -1,6 +1,7 @@
 //! Rows as they are read from columns, and the names and limits that rows speak of.
 
-pub const READING: &str = "
+pub const ALL: &str = "
+scenario rows are read
 empty
 read meta 'format', -1
 = meta name, value
@@ -54,9 +55,8 @@ put fact 'T2', 1, 20240610, 1, 9, 1, 1, 2, 1, 1, -1, 1000, 700
 get fact T2 1
 = fact ticket, line, day, store_key, product_key, customer_key, store_durable, product_durable, customer_durable, profile, quantity, amount, cost
 = fact 'T2', 1, 20240610, 1, 9, 1, 1, 2, 1, 1, -1, 1000, 700
-";
 
-pub const NAMES_AND_LIMITS: &str = "
+scenario names and limits
 # Tables by name.
 empty
 table calendar

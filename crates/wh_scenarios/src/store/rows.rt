@@ -1,6 +1,7 @@
 //! A row of each table goes in, and out again, in the transaction that made the tables.
 
-pub const ROWS: &str = "
+pub const ALL: &str = "
+scenario rows go in and out
 empty BEGIN
 create
 

@@ -1,6 +1,7 @@
 //! Rows that are handed out one at a time. A part has 256 of them.
 
-pub const PARTS: &str = "
+pub const ALL: &str = "
+scenario parts of a calendar
 warehouse
 # No row.
 scan calendar 9999
@@ -71,9 +72,8 @@ scan meta 9999
 = 4
 = meta name, value
 = meta 'format', 1
-";
 
-pub const EVERY_TABLE: &str = "
+scenario parts of every table
 warehouse
 write
 > days 20230101 20240701
@@ -160,9 +160,8 @@ scan void 257
 = 257
 = void ticket, line, command
 = void 'T2', 75, 1
-";
 
-pub const DAMAGED: &str = "
+scenario damaged rows of a part
 warehouse
 write
 > days 20230101 20240823

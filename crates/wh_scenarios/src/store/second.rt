@@ -1,6 +1,7 @@
 //! The second format: made of the first, and its facts; and the facts of the first taken out.
 
-pub const UPGRADED: &str = "
+pub const ALL: &str = "
+scenario facts of the second format
 # All facts go into the second format, and all else stays.
 warehouse
 write
@@ -152,9 +153,8 @@ open
 = opened
 tally2 profile
 = damaged fact2
-";
 
-pub const FIRST: &str = "
+scenario what the first format refuses
 # The first format has no such facts, and takes none. A scan asks for none.
 warehouse
 all fact2
@@ -213,9 +213,8 @@ count fact
 get meta format
 = meta name, value
 = meta 'format', 1
-";
 
-pub const CLEARED: &str = "
+scenario all facts of the first format taken out
 # All facts of the first format go at once, and are so many keys written; rows of other tables stay, and a fact can be put again.
 warehouse
 write

@@ -1,6 +1,7 @@
 //! What the calls that run one statement refuse, outside a transaction and inside one.
 
-pub const OUTSIDE: &str = "
+pub const ALL: &str = "
+scenario outside a transaction
 # Nothing is put.
 empty BEGIN
 create
@@ -51,9 +52,8 @@ create
 status
 = free
 = at rest
-";
 
-pub const INSIDE: &str = "
+scenario inside a transaction
 # A number past those of SQL is refused before the statement is run, and the transaction goes on.
 empty BEGIN
 create

@@ -1,6 +1,7 @@
 //! Edits that are kept together, or not at all.
 
-pub const KEPT: &str = "
+pub const ALL: &str = "
+scenario edits are kept or dropped
 # Edits that are dropped leave nothing.
 warehouse
 write
@@ -103,9 +104,8 @@ all meta
 = meta 'commands_max', 10
 = meta 'facts_max', 3000
 = meta 'format', 1
-";
 
-pub const IN_TURN: &str = "
+scenario edits are made in turn
 # A row that is refused isn't counted, and none of the others is kept.
 warehouse
 write
@@ -236,9 +236,8 @@ anchor customer
 = 9
 anchor product
 = 0
-";
 
-pub const IN_PARTS: &str = "
+scenario edits are made in parts
 # Seventeen records of a command: sixteen in one statement, and one.
 warehouse
 write

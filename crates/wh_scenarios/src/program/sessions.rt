@@ -1,20 +1,13 @@
 //! Sessions.
 
-use crate::program::ProgramDriver;
-use std::test::Fail;
-use wh_scenarios::check;
-use wh_scenarios::program::reports::FILES;
-
-/// After the files.
-const SESSIONS: &str = r#"
+pub const ALL: &str = r#"
+scenario a warehouse is made and asked, each line over what the one before left
 # A session of no line, and one whose lines say nothing.
 session w
-= status 0
 session w
 > 
 > # a remark
 >   
-= status 0
 
 # Before there is a warehouse; then one is made, and asked.
 session w
@@ -27,7 +20,6 @@ session w
 = status 0
 = clean
 = status 0
-= status 3
 
 # Each line over what the one before left.
 session w
@@ -67,12 +59,10 @@ session w
 = status 0
 = clean
 = status 0
-= status 2
 
 # It holds what the same commands leave one by one.
 run load w product p3 p3.csv
 = already 4 p3: 1 records, 0 placeholders
-= status 0
 
 # What is no command, and what no session answers.
 session w
@@ -121,9 +111,8 @@ session w
 = facts 0
 = members product 1 store 0 customer 0
 = status 0
-= status 4
 
-# A trial and the version are for no warehouse.
+scenario a trial and the version are for no warehouse
 session w
 > --version
 > trial product products.csv
@@ -131,9 +120,8 @@ session w
 = status 0
 = failed: F1 file, products.csv
 = status 3
-= status 3
 
-# A file's name is no warehouse's.
+scenario a file's name is no warehouse's
 session p1.csv
 > status
 > init policy.toml
@@ -141,15 +129,8 @@ session p1.csv
 = status 3
 = failed: F1 file, p1.csv
 = status 3
-= status 3
 
-# Without a session its lines are not read.
+scenario without a session its lines are not read
 run session w
 = refused: G5 session
-= status 2
 "#;
-
-#[test]
-fn sessions(rt: HostRuntime) -> Result<(), Fail> {
-    check::<ProgramDriver>(rt.alloc(), &[FILES, SESSIONS])
-}
