@@ -5,9 +5,11 @@ usage: tests/nights_with_voids.py [NIGHTS] [PROGRAM]: 20 nights, or so many, eac
 
 A night sends sales, voids, late records of products and an upgrade, each under a new id, some again under an old one. The model keeps what was
 sold, what was withdrawn and the records of each product, and says of each command what must be printed. After a night the rows of
-`fact2` (or `fact`) and `void`, three reports and `check` have to be as it says.
+`fact2` (or `fact`) and `void`, three reports and `check` have to be as it says. Every second night goes on with a warehouse that an earlier
+program made, which gave the facts further indexes (tests/older).
 """
 
+import lzma
 import os
 import random
 import subprocess
@@ -18,6 +20,8 @@ from lib.program import program
 
 POLICY = 'first_year = 2023\nlast_year = 2026\n[[product]]\nname = "brand"\ntype = 6\n[[store]]\nname = "city"\ntype = 2\n[[customer]]\nname = "tier"\ntype = 2\n'
 RANGE = ("2023-01-01", "2026-12-31")
+# made under this policy by an earlier program
+OLDER = os.path.join(os.path.dirname(os.path.abspath(__file__)), "older", "night.wh.xz")
 
 
 def money(hundredths):
@@ -102,6 +106,7 @@ class Model:
 class Night:
     def __init__(self, program, seed):
         self.program, self.random, self.model, self.sent = program, random.Random(seed), Model(), []
+        self.is_older = seed % 2 == 1
 
     def run(self, *words):
         done = subprocess.run([self.program, *words], stdin=subprocess.DEVNULL, capture_output=True, text=True, timeout=60)
@@ -174,10 +179,18 @@ class Night:
             self.differ(f"report {words}", told, wanted)
         self.differ("check", self.run("check", "w"), ["clean"])
 
-    def make(self):
+    def begin(self):
+        """Makes the warehouse, or takes the one that an earlier program made."""
+        if self.is_older:
+            with lzma.open(OLDER) as packed, open("w", "wb") as file:
+                file.write(packed.read())
+            return
         with open("policy.toml", "w") as file:
             file.write(POLICY)
         self.differ("init", self.run("init", "w", "policy.toml"), ["accepted 1 init: 0 records, 0 placeholders"])
+
+    def make(self):
+        self.begin()
         for number in range(40):
             self.send(number)
         self.compare()
