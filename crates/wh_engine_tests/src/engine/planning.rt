@@ -18,7 +18,7 @@ use std::alloc::{AllocError, Global};
 use wh_day::{Day, NaturalKey, Value, Values};
 use wh_engine::{write_edits, write_making};
 use wh_history::{Change, Changes, DimensionShape, Edit, Member, Profiles};
-use wh_plan::new_rows::{new_change_rows, new_member_rows, rows_of_members};
+use wh_plan::new_rows::{new_change_rows, new_member_rows};
 use wh_plan::reading::{command_with, last_member, stored_changes, stored_member, stored_rows};
 use wh_plan::{Edits, FactEdit, Terms, plan_batch};
 use wh_policy::{Dim, DimensionRecord, Format, Policy};
@@ -256,7 +256,10 @@ fn push_rendered(alloc: Global, handed: &str, out: &mut String) -> Result<(), Tr
         types: &types,
         profiles: &profiles,
     };
-    let rows = rows_of_members(alloc, &dimension, &touched(alloc, handed)?)?;
+    let mut rows = Vec::new(alloc);
+    for member in touched(alloc, handed)?.iter() {
+        rows.append(&mut dimension.rows_of(alloc, member)?)?;
+    }
     Ok(push_rows(out, Table::Product, &rows)?)
 }
 
