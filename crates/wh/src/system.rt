@@ -36,7 +36,7 @@ struct KeptWarehouse {
     connection: Warehouse,
 }
 
-/// The files of the system. The connection of the last visit stays open for the next one under its name, unless the store refused a call.
+/// The files of the system. The connection of the last visit stays open for the next one under its name, unless the database refused a call.
 #[derive(Drop)]
 pub struct SystemHost<'a> {
     runtime: &'a HostRuntime,
@@ -240,7 +240,7 @@ fn has_header(runtime: &HostRuntime, alloc: Global, name: &str) -> io::Result<bo
 }
 
 /// Whether what has the name can be a database: it begins as one, or a stopped run left its beginning in the log. What is no file is
-/// left to the store, which refuses it.
+/// left to the database, which refuses it.
 fn can_be_database(runtime: &HostRuntime, alloc: Global, name: &str) -> io::Result<bool> {
     match fs::metadata(runtime, name) {
         Ok(found) if !found.is_file() => Ok(true),

@@ -14,7 +14,8 @@ use Rattle.wh_engine.specs.declared.session.Session.{Session}
 use Rattle.wh_engine.specs.declared.fault.Fault.{Fault}
 use Rattle.wh_engine.specs.declared.fault.Fault.TheVariants.{Refused, Damaged, Memory, Store, Reopen}
 
--- the verdict is the one that is due, or the table is named as damaged that is due; or memory ran out, or the store refused a call. No other fault comes of the work.
+-- the verdict is the one that is due, or the table is named as damaged that is due; or memory ran out, or the database refused a call. No other fault comes
+-- of the work.
 abbrev pub IsChecked : Stored → Result Verdict Fault → Type 0
 IsChecked stored (Ok verdict) = IsJudged stored (Ok verdict)
 IsChecked stored (Err (Refused why)) = ⊥

@@ -7,8 +7,8 @@ use Rattle.wh_admission.specs.Checked.{IsSoundStored, IsFirstWrong}
 use Rattle.wh_checking.specs.declared.verdict.Verdict.{Verdict}
 use Rattle.wh_checking.specs.declared.verdict.Verdict.TheVariants.{Clean, Wrong}
 
--- It is sound; or a table is the first that isn't as it should be, and none of its rows is damaged; or a table is the first, and stores a damaged row. Or memory ran out, or the store refused
--- a call.
+-- It is sound; or a table is the first that isn't as it should be, and none of its rows is damaged; or a table is the first, and stores a damaged row. Or
+-- memory ran out, or the database refused a call.
 abbrev pub IsJudged : Stored → Result Verdict ReadFault → Type 0
 IsJudged stored (Ok Clean) = IsSoundStored stored
 IsJudged stored (Ok (Wrong table)) = IsFirstWrong stored table × (¬ HasDamageIn stored table)

@@ -110,7 +110,7 @@ fn check_tables<S: Alter>(
 pub trait Check {
     /// Whether the tables are what their commands define: clean, or the first table that is wrong. `Damaged` names that table where it
     /// stores a row out of its type. Anybody may have written the rows. A second warehouse is made anew in memory for it, and dropped:
-    /// `Memory` may come of that too. After a refusal of the store it answers `Reopen`.
+    /// `Memory` may come of that too. After a refusal of the database it answers `Reopen`.
     fn check(&mut self, alloc: Global) -> Result<Verdict, Fault>;
 }
 

@@ -46,7 +46,7 @@ goes_on limits commands c (Err faults.Memory) told session s is e = absurd cc
 goes_on limits commands c (Err (faults.Store cause)) told session s is e = absurd cc
 goes_on limits commands c (Err faults.Reopen) told session s is e = absurd is
 
--- an answer is no refusal of the store
+-- an answer is no refusal of the database
 pub not_stopped : (answered : Result Reply Fault) (told : Result Reply Refusal) → answer_or_stop answered ≡ Ok told → stops answered ≡ false
 not_stopped (Ok reply) told e = refl
 not_stopped (Err (faults.Refused why)) told e = refl

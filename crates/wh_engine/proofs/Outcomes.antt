@@ -26,7 +26,7 @@ fault_due is_due before after fits judged (faults.Store cause) is refused = tt
 fault_due is_due before after fits judged (faults.Damaged table) is refused = is
 fault_due is_due before after fits judged faults.Reopen is refused = is
 
--- ---- a refusal of the store is noted
+-- ---- a refusal of the database is noted
 
 module _ (limits : Limits) (session : Session) (s : State) where
   ready_on : (commands : List Accepted) → IsReady limits commands session s → IsReady limits commands (record session { must_reopen = false }) s
@@ -64,7 +64,7 @@ module _ (limits : Limits) (commands : List Accepted) (session : Session) (old n
     only_read (Ok told) due rests = (due.0, still_ready (rests tt))
     only_read (Err fault) due rests = unanswered A commands fault due rests
 
-    -- and so does a call that only reads, which notes whether the store refused one
+    -- and so does a call that only reads, which notes whether the database refused one
     pub read_and_noted : (result : Result A Fault) → Outcome is_due commands commands result anywhere → (IsServed result → IsAtRest (Some tables) new)
         → Outcome is_due commands commands result (IsLeft limits (record session { must_reopen = stops result }) new)
     read_and_noted result due rests = noted limits session new is_due commands commands result (only_read result due rests)

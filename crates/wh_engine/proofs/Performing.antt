@@ -185,7 +185,7 @@ module _ (limits : Limits) (commands : List Accepted) (c : Command) (session : S
     pub writes_counted : (writes : ℕ) → writes ≡ edit_count edits → IsWritten limits commands c (Ok (Accepts receipt)) writes
     writes_counted writes counted = (edits, subst (λ list. AreEdits commands list edits) (sym list_is) work.edits_are, counted)
 
-    -- or the store refused them
+    -- or the database refused them
     pub stop_performed : (new : State) → ((trees : Trees) → new.may_leave trees → AreTrees (Some tables) trees ⊎ AreTrees (Some (with_all_edits edits tables)) trees) → LeavesOneOf limits commands (accepted_after limits commands c) new
     stop_performed new left = record {
       each = λ trees may. elim (left trees may) [

@@ -104,7 +104,7 @@ fails_after {A} {B} g old mid new fault result first last came =
     let p = err_from_is_err_and result came.1 in
     rw (p.1, p.2) (fails_other {A = B} {B = A} g old new fault (reads_after g old mid new (Err fault) first last))
 
--- where memory ran out, or the store refused a call, nothing else is told
+-- where memory ran out, or the database refused a call, nothing else is told
 wants_judged : {X Y : Type 0} (fits : X → Y → Type 0) (fault : Fault) (judged : Result Y Refusal) → IsWanting fault → Judges fits (Err fault) judged
 wants_judged fits (faults.Refused why) judged wants = absurd wants
 wants_judged fits (faults.Damaged table) judged wants = wants

@@ -52,7 +52,7 @@ pub record IsReady (limits : Limits) (commands : List Accepted) (session : Sessi
   pub rests : Rests limits commands s
   pub session_is : session ≡ record { limits = limits; format = format_of commands; policy = current_policy commands; must_reopen = false }
 
--- The store refused a call of the engine, which has to be opened again; a crash leaves the tables before the command, or those with it.
+-- The database refused a call of the engine, which has to be opened again; a crash leaves the tables before the command, or those with it.
 pub record IsStopped (limits : Limits) (before after : List Accepted) (session : Session) (s : State) : Type 0 where
   pub flagged : IsTrue session.must_reopen
   pub left : LeavesOneOf limits before after s
@@ -62,7 +62,7 @@ abbrev pub IsLeft : Limits → Session → State → Left → Type 0
 IsLeft limits session s (At commands) = IsReady limits commands session s
 IsLeft limits session s (Between before after) = IsStopped limits before after session s
 
--- the same before it is noted that the store refused a call
+-- the same before it is noted that the database refused a call
 abbrev pub IsLeftUnnoted : Limits → Session → State → Left → Type 0
 IsLeftUnnoted limits session s (At commands) = IsReady limits commands session s
 IsLeftUnnoted limits session s (Between before after) = LeavesOneOf limits before after s
@@ -86,7 +86,7 @@ IsForetold limits commands c result session s = Outcome (IsPlanOf limits command
 abbrev pub IsForeseen : Limits → List Accepted → Command → Result Edits Fault → Session → State → Type 0
 IsForeseen limits commands c result session s = Outcome (IsPlanOf limits commands c) commands commands result (IsLeftUnnoted limits session s)
 
--- an answer that leaves any tables as they were: nothing was accepted, and the store refused no call
+-- an answer that leaves any tables as they were: nothing was accepted, and the database refused no call
 abbrev pub KeepsNothing : Result Reply Fault → Type 0
 KeepsNothing (Ok (replies.Accepted receipt)) = ⊥
 KeepsNothing (Ok (replies.Already receipt)) = ⊤
@@ -121,7 +121,7 @@ IsFormatted old new c (Ok (replies.Accepted receipt)) = new ≡ format_brought c
 IsFormatted old new c (Ok (replies.Already receipt)) = new ≡ old
 IsFormatted old new c (Err fault) = new ≡ old
 
--- A call that was worked on notes whether the store refused it. The limits stay, and policy and format are what the command makes of them.
+-- A call that was worked on notes whether the database refused it. The limits stay, and policy and format are what the command makes of them.
 pub record IsNoted (old new : Session) (c : Command) (result : Result Reply Fault) : Type 0 where
   pub flag : new.must_reopen ≡ stops result
   pub limits : new.limits ≡ old.limits

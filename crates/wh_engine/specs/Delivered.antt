@@ -36,8 +36,8 @@ abbrev pub AreFewer : List Command → List (Result Reply Refusal) → Type 0
 AreFewer sent answers = (answers ≡ []) ⊎ (length answers < length sent)
 
 -- What a delivery says: with no stop each command has its answer, and the tables are those of the list after all of them. Where memory ran out the first
--- commands have theirs, not all, and the tables are those of the list after these. Where the store refused a call they have theirs too, and a crash leaves the tables of the list
--- after these, or those with the next command.
+-- commands have theirs, not all, and the tables are those of the list after these. Where the database refused a call they have theirs too, and a crash leaves
+-- the tables of the list after these, or those with the next command.
 abbrev pub IsDelivered : Limits → List Accepted → List Command → List (Result Reply Refusal) → Option Fault → Session → State → Type 0
 IsDelivered limits commands sent answers None session s =
     (answers ≡ answers_to limits commands sent) × IsReady limits (accepted_after_all limits commands sent) session s
@@ -59,7 +59,7 @@ AcceptsNothing (Err why) = ⊤
 abbrev pub AcceptNothing : List (Result Reply Refusal) → Type 0
 AcceptNothing answers = AllByRecursion AcceptsNothing answers
 
--- the store refused a call
+-- the database refused a call
 abbrev pub is_of_the_store : Option Fault → Bool
 is_of_the_store (Some (Store cause)) = true
 is_of_the_store (Some fault) = false
@@ -99,7 +99,8 @@ EachUntilAccepted Says [] sent = ⊤
 EachUntilAccepted Says (told ∷ answers) [] = ⊥
 EachUntilAccepted Says (told ∷ answers) (c ∷ sent) = Says c (as_called told) × (AcceptsNothing told → EachUntilAccepted Says answers sent)
 
--- A delivery notes whether the store refused a call. The limits stay, and so does the policy where nothing was accepted; else it and the format are what the accepted commands make of them.
+-- A delivery notes whether the database refused a call. The limits stay, and so does the policy where nothing was accepted; else it and the format are what
+-- the accepted commands make of them.
 pub record IsDeliveryNoted (old new : Session) (sent : List Command) (answers : List (Result Reply Refusal)) (stop : Option Fault) : Type 0 where
   pub flag : new.must_reopen ≡ is_of_the_store stop
   pub limits : new.limits ≡ old.limits

@@ -22,7 +22,7 @@ abbrev pub of_content : ParseError Refusal → Fault
 of_content unread.Memory = faults.Memory
 of_content (unread.Fault why) = faults.Refused why
 
--- no call of the store was refused
+-- no call of the database was refused
 abbrev pub SparesStore : Fault → Type 0
 SparesStore (faults.Store cause) = ⊥
 SparesStore fault = ⊤
@@ -30,7 +30,7 @@ SparesStore fault = ⊤
 abbrev pub IsServed : {A : Type 0} → Result A Fault → Type 0
 IsServed result = IfErr result SparesStore
 
--- the store refused a call
+-- the database refused a call
 abbrev pub stops : {A : Type 0} → Result A Fault → Bool
 stops (Ok answer) = false
 stops (Err (faults.Refused why)) = false
@@ -71,7 +71,7 @@ NamesTaken taken fault = ⊤
 abbrev pub TellsTaken : {A : Type 0} → Bool → Result A Fault → Type 0
 TellsTaken taken result = IfErr result (NamesTaken taken)
 
--- The answer is that of the definition; or memory ran out, or the store refused a call. Nothing else comes.
+-- The answer is that of the definition; or memory ran out, or the database refused a call. Nothing else comes.
 abbrev pub Judges : {X Y : Type 0} → (X → Y → Type 0) → Result X Fault → Result Y Refusal → Type 0
 Judges fits (Ok x) (Ok y) = fits x y
 Judges fits (Ok x) (Err why) = ⊥

@@ -99,7 +99,8 @@ policies_stored stored = filter has_policy (stored.rows tables.Command)
 abbrev pub PolicyIs : Stored → Result Policy OpenFault → Type 0
 PolicyIs stored policy = (last : List CommandRow) × AreAsked (Some last_one) row.command (policies_stored stored) last × (of_command (slice_get last 0) ≡ policy)
 
--- there is no policy in force, with this fault: the last of them gives none, or they are none, or the last is damaged; or memory ran out, or the store refused a call
+-- there is no policy in force, with this fault: the last of them gives none, or they are none, or the last is damaged; or memory ran out, or the database
+-- refused a call
 abbrev pub IsPolicyless : Stored → OpenFault → Type 0
 IsPolicyless stored faults.Memory = ⊤
 IsPolicyless stored (faults.Store cause) = ⊤
@@ -127,7 +128,7 @@ IsUnopened stored fault = IsRefusedOn Two (is_two stored.format) stored fault
 
 -- ---- a warehouse
 
--- A warehouse that wasn't opened: memory ran out, and nothing changed; or the store refused a call, and a crash leaves its tables. No other fault comes.
+-- A warehouse that wasn't opened: memory ran out, and nothing changed; or the database refused a call, and a crash leaves its tables. No other fault comes.
 abbrev pub IsNotOpened : Limits → List Accepted → OpenFault → State → Type 0
 IsNotOpened limits commands faults.Memory s = Rests limits commands s
 IsNotOpened limits commands (faults.Store cause) s = LeavesOneOf limits commands commands s
@@ -142,7 +143,7 @@ pub record LeavesMade (limits : Limits) (bytes : List ℕ) (s : State) : Type 0 
   pub each : (trees : Trees) → s.may_leave trees → AreTrees None trees ⊎ ((policy : Policy) × (read_policy bytes ≡ Ok policy) × AreTreesOf limits (making_of policy bytes ∷ []) trees)
 
 -- Why no warehouse was made: the bytes' first fault; or the bytes give a policy, and a name of the twelve tables is taken; or memory ran out; or the
--- bytes give a policy, and the store refused a call.
+-- bytes give a policy, and the database refused a call.
 abbrev pub IsNotMade : List ℕ → Bool → InitFault → Type 0
 IsNotMade bytes taken (init.Policy fault) = read_policy bytes ≡ Err fault
 IsNotMade bytes taken init.NotEmpty = IsOk (read_policy bytes) × (taken ≡ true)

@@ -20,7 +20,8 @@ pub record HasReceipt (limits : Limits) (commands : List Accepted) (c : Command)
   pub said : answer limits commands c ≡ Ok first
   pub same : receipt_told reply ≡ receipt_told first
 
--- By the answer to the second: the receipt or the refusal is that of the command, and the tables are those of the list after it, once; or memory ran out, and they are those before it or after it; or the store refused a call.
+-- By the answer to the second: the receipt or the refusal is that of the command, and the tables are those of the list after it, once; or memory ran out, and
+-- they are those before it or after it; or the database refused a call.
 abbrev pub IsRedelivered : Limits → List Accepted → Command → Result Reply Fault → Session → State → Type 0
 IsRedelivered limits commands c (Ok reply) session s = HasReceipt limits commands c reply × IsReady limits (accepted_after limits commands c) session s
 IsRedelivered limits commands c (Err (Refused why)) session s = (answer limits commands c ≡ Err why) × IsReady limits (accepted_after limits commands c) session s
@@ -39,8 +40,9 @@ receipt_answered (Err why) = Err why
 abbrev pub TellReceipts : Limits → List Accepted → List Command → List (Result Reply Refusal) → Type 0
 TellReceipts limits commands sent answers = map receipt_answered answers ≡ map receipt_answered (answers_to limits commands (take (length answers) sent))
 
--- By what stopped the second delivery: with no stop all the receipts and refusals are those of a delivery without a stop, and the tables are those that it leads to. Where memory ran out the tables are those after the
--- commands that are answered, or after these and the next one; where the store refused a call a crash leaves one of these two.
+-- By what stopped the second delivery: with no stop all the receipts and refusals are those of a delivery without a stop, and the tables are those that it
+-- leads to. Where memory ran out the tables are those after the commands that are answered, or after these and the next one; where the database refused a
+-- call a crash leaves one of these two.
 abbrev pub IsDeliveredAgain : Limits → List Accepted → List Command → List (Result Reply Refusal) → Option Fault → Session → State → Type 0
 IsDeliveredAgain limits commands sent answers None session s =
     (map receipt_answered answers ≡ map receipt_answered (answers_to limits commands sent)) × IsReady limits (accepted_after_all limits commands sent) session s

@@ -39,8 +39,8 @@ IsReadyForEither g limits before after engine =
 abbrev pub HoldsEither : Limits → List Accepted → List Accepted → Image → Type 0
 HoldsEither limits before after image = ∥ ((trees : Trees) × HoldsDatabase image trees × (AreTreesOf limits before trees ⊎ AreTreesOf limits after trees)) ∥₁
 
--- A warehouse of the first commands or of the second isn't opened again, and this is known of it. The store refused the files, which held one of the two; or it
--- wasn't opened, since memory ran out or the store refused a call, and the connection rests with one of them, or a crash leaves it.
+-- A warehouse of the first commands or of the second isn't opened again, and this is known of it. The database refused the files, which held one of the two; or it
+-- wasn't opened, since memory ran out or the database refused a call, and the connection rests with one of them, or a crash leaves it.
 abbrev pub IsNotReady : {D : Type 0} {g : Ghosts D} → Limits → List Accepted → List Accepted → Type 0 → NotReopened D g → Type 0
 IsNotReady limits before after Known (left.Files error rest) = AreUnopened (λ image. Known × HoldsEither limits before after image) rest error
 IsNotReady limits before after Known (left.Warehouse fault conn) =

@@ -67,8 +67,8 @@ SparesIn g old new calm = Spares (state_of g old) (state_of g new) calm
 abbrev pub ReadsOnlyIn : {S A : Type 0} → Ghosts S → Tables S → Tables S → Result A ReadFault → Type 0
 ReadsOnlyIn g old new result = ReadsOnly (state_of g old) (state_of g new) result
 
--- What a reading leaves of the tables: they are as they were unless the store refused a call, and a crash leaves them. A table that it names as damaged is damaged, and a name
--- that it calls taken is taken. It never asks for the warehouse to be opened again.
+-- What a reading leaves of the tables: they are as they were unless the database refused a call, and a crash leaves them. A table that it names as damaged is
+-- damaged, and a name that it calls taken is taken. It never asks for the warehouse to be opened again.
 pub record Reads {S A : Type 0} (g : Ghosts S) (old new : Tables S) (result : Result A Fault) : Type 0 where
   pub spares : Spares (state_of g old) (state_of g new) (IsServed result)
   pub blames : WhenStored g old new (λ stored. BlamesDamage stored result)
@@ -80,12 +80,12 @@ pub record Shuts {S : Type 0} (old new : Engine S) (told : Type 0) : Type 0 wher
   pub same : IsTrue old.session.must_reopen → told × (new.tables ≡ old.tables) × (new.session ≡ old.session)
   pub only : told → IsTrue old.session.must_reopen
 
--- where the store refuses a call the engine has to be opened again, and stays so
+-- where the database refuses a call the engine has to be opened again, and stays so
 abbrev pub noting : {A : Type 0} → Session → Result A Fault → Session
 noting session result = record session { must_reopen = session.must_reopen || stops result }
 
--- What a call that reads leaves of an engine, whatever it answers: the same of its tables; it is noted where the store refused a call, and refused where one had
--- before. What the last command wrote stays counted.
+-- What a call that reads leaves of an engine, whatever it answers: the same of its tables; it is noted where the database refused a call, and refused where
+-- one had before. What the last command wrote stays counted.
 pub record EngineReads {S A : Type 0} (g : Ghosts S) (old new : Engine S) (result : Result A Fault) : Type 0 where
   pub spares : Spares (state_of g old.tables) (state_of g new.tables) (IsServed result)
   pub blames : WhenStored g old.tables new.tables (λ stored. BlamesDamage stored result)
@@ -95,7 +95,7 @@ pub record EngineReads {S A : Type 0} (g : Ghosts S) (old new : Engine S) (resul
 
 -- ---- what is left of one that was ready
 
--- memory ran out, or the store refused a call
+-- memory ran out, or the database refused a call
 abbrev pub IsWanting : Fault → Type 0
 IsWanting Memory = ⊤
 IsWanting (Store cause) = ⊤
@@ -105,8 +105,9 @@ IsWanting fault = ⊥
 abbrev pub IsServing : {A : Type 0} → Limits → List Accepted → Result A Fault → Session → State → Type 0
 IsServing limits commands result session s = Outcome IsOk commands commands result (IsLeft limits session s)
 
--- The same of several readings, one after the other. What was at rest is as it was, unless the store refused a call. An engine that was ready for commands is so still; or memory ran out, and it is; or the
--- store refused a call, and it has to be opened again. A table that is named as damaged is. That it has to be opened again is answered only by one that had to be before.
+-- The same of several readings, one after the other. What was at rest is as it was, unless the database refused a call. An engine that was ready for commands
+-- is so still; or memory ran out, and it is; or the store refused a call, and it has to be opened again. A table that is named as damaged is. That it has to
+-- be opened again is answered only by one that had to be before.
 pub record ReadsThrough {A : Type 0} (before after : Session) (old new : State) (result : Result A Fault) : Type 0 where
   pub spares : Spares old new (IsServed result)
   pub serves : HasCleanDisk new → (limits : Limits) (commands : List Accepted) → IsReady limits commands before old → IsServing limits commands result after new

@@ -156,7 +156,7 @@ fn carried_batch<S: Alter>(
 impl<S: Alter> Engine<S> {
     /// The batch of the records that carry a dimension's members to the next file, from one of them on, counted from 0 through the first records
     /// and then the dated ones. It has as many of its kind as a batch can hold, and past the last one none. Members are read a range at a time, those
-    /// before the batch too. `Damaged`: a row of member, or one of change, that is read is out of its type. After a refusal of the store it
+    /// before the batch too. `Damaged`: a row of member, or one of change, that is read is out of its type. After a refusal of the database it
     /// answers `Reopen`.
     pub fn carried_batch(&mut self, alloc: Global, dim: Dim, from: usize) -> Result<Part, Fault>
         ensures reads { EngineReads S.Store self.old self.new result }

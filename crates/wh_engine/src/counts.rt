@@ -75,7 +75,7 @@ fn counts_of<S: Alter>(
 
 impl<S: Alter> Engine<S> {
     /// How much the warehouse holds. `Damaged`: the last member of a dimension is out of its type. `Memory` and `Store`: as reading has them. After a
-    /// refusal of the store it answers `Reopen`.
+    /// refusal of the database it answers `Reopen`.
     pub fn counts(&mut self, alloc: Global) -> Result<Counts, Fault>
         ensures reads { EngineReads S.Store self.old self.new result }
         ensures counted { WhenReady S.Store self.old self.new (λ limits commands. IsCounted limits commands result) }

@@ -36,10 +36,10 @@ fn answer_or_stop(answered: Result<Reply, Fault>) -> Result<Result<Reply, Refusa
 
 impl<S: Alter> Engine<S> {
     /// Answers commands in order. It goes on after a refusal of a command, and stops at any other fault. Room for all answers is taken
-    /// first: where that is refused, no command is begun. After a refusal of the store, in this call or an earlier one, the warehouse has
+    /// first: where that is refused, no command is begun. After a refusal of the database, in this call or an earlier one, the warehouse has
     /// to be opened again.
     pub fn deliver(&mut self, alloc: Global, commands: &[Command]) -> Replies
-        // Any database stays as it was where nothing was accepted and the store refused no call.
+        // Any database stays as it was where nothing was accepted and the database refused no call.
         ensures keeps { Keeps S.Store self.old.tables self.new.tables (AcceptNothing result.answers.items × (is_of_the_store result.stop ≡ false)) }
         ensures delivered { WhenReady S.Store self.old self.new (λ limits accepted. IsDelivered limits accepted commands.now result.answers.items result.stop) }
         // On any tables: how many are answered, and that no refusal of a command is a stop.

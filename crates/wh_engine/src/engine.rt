@@ -86,14 +86,14 @@ impl<S: Alter> Engine<S> {
         self.writes
     }
 
-    /// Whether the store refused a call: then the warehouse has to be opened again, and each call on the tables answers `Reopen`.
+    /// Whether the database refused a call: then the warehouse has to be opened again, and each call on the tables answers `Reopen`.
     pub fn must_reopen(&self) -> bool
         ensures { result ≡ self.now.session.must_reopen }
     {
         self.session.must_reopen
     }
 
-    /// Notes of what a reading of the tables answered whether the store refused a call.
+    /// Notes of what a reading of the tables answered whether the database refused a call.
     pub fn note<A>(&mut self, answer: &Result<A, Fault>)
         ensures { self.new ≡ record (self.old) { session = record (self.old.session) { must_reopen = stops answer.now } } }
     {
@@ -107,8 +107,8 @@ impl<S: Alter> Engine<S> {
         self.tables.close()
     }
 
-    /// Answers a command. An accepted one is kept, once, in one transaction whose commit is the last call of the store. `Refused`: it isn't
-    /// accepted. `Damaged`, `Memory`: nothing was written. `Store`: the store refused a call. After that every call answers `Reopen`.
+    /// Answers a command. An accepted one is kept, once, in one transaction whose commit is the last call of the database. `Refused`: it isn't
+    /// accepted. `Damaged`, `Memory`: nothing was written. `Store`: the database refused a call. After that every call answers `Reopen`.
     pub fn apply(&mut self, alloc: Global, command: &Command) -> Result<Reply, Fault>
         // Any database stays as it was where nothing was accepted, whatever its schema is and whoever wrote its rows.
         ensures keeps { Keeps S.Store self.old.tables self.new.tables (KeepsNothing result) }

@@ -23,15 +23,15 @@ pub enum Fault {
     /// A growth was refused before anything was written. Nothing changed.
     #[error("memory ran out")]
     Memory,
-    /// The store refused a call, or a growth was refused inside a transaction. What is left is found by opening again.
+    /// The database refused a call, or a growth was refused inside a transaction. What is left is found by opening again.
     #[error("the store refused a call")]
     Store(Cause),
-    /// The store refused an earlier call: the warehouse has to be opened again. Nothing changed.
+    /// The database refused an earlier call: the warehouse has to be opened again. Nothing changed.
     #[error("the warehouse has to be opened again")]
     Reopen,
 }
 
-/// Whether the store refused a call.
+/// Whether the database refused a call.
 pub(crate) fn stops<T>(answer: &Result<T, Fault>) -> bool
     ensures { result ≡ stops answer.now }
 {

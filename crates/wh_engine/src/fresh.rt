@@ -25,7 +25,7 @@ pub fn deliver_fresh(
     commands: &[Command],
 ) -> Result<(Replies, Connection<MemStore>), InitFault>
     ensures made { IfOk result (λ it. HasCleanDisk (state over_memory it.1) → IsDeliveredFresh limits policy.now commands.now it.0.answers.items it.0.stop (state over_memory it.1)) }
-    // No name is taken, so only the policy's fault, memory or the store stands in the way.
+    // No name is taken, so only the policy's fault, memory or the database stands in the way.
     ensures refused { IfErr result (IsNotMade policy.now false) }
 {
     let Ok(connection) = open_fresh(alloc) else {

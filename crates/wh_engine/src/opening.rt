@@ -42,7 +42,7 @@ pub enum InitFault {
     /// A growth was refused before anything was written.
     #[error("memory ran out")]
     Memory,
-    /// The store refused a call, or a growth was refused inside the transaction.
+    /// The database refused a call, or a growth was refused inside the transaction.
     #[error("the store refused a call")]
     Store(Cause),
 }
@@ -169,10 +169,10 @@ impl<S: Alter> Engine<S> {
     /// - `OldFormat`, `NewFormat`: meta says a format below 1, or above 2.
     /// - `Damaged`: of meta, the format or a limit is out of its type, or a limit is missing or out of its range; of command, the last row that
     ///   gives a policy is missing, out of its type, or holds no policy.
-    /// - `Memory`: a growth was refused outside the store.
-    /// - `Store`: the store refused a call, or a transaction is open (`Store(Disk)`).
+    /// - `Memory`: a growth was refused outside the database.
+    /// - `Store`: the database refused a call, or a transaction is open (`Store(Disk)`).
     pub fn open(alloc: Global, conn: Connection<S>) -> Result<Engine<S>, (OpenFault, Connection<S>)>
-        // It changes nothing in any database unless the store refuses a call.
+        // It changes nothing in any database unless the database refuses a call.
         ensures spares { IfOpened S.Store conn result (λ old new _. Spares old new ⊤) }
         ensures spares_left { IfHandedBack S.Store conn result (λ old new why. Spares old new (SparesStore why)) }
         ensures ready { IfOpened S.Store conn result (λ old new engine. WhenAdmitted old new (λ limits commands. IsReady limits commands engine.session)) }

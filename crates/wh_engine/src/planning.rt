@@ -36,7 +36,7 @@ fn foretell<S: Alter>(
 
 impl<S: Alter> Engine<S> {
     /// What a command would write, were it sent now: its edits of all tables, and none where it is the same as an accepted one.
-    /// It is refused as `apply` would refuse it, by `Refused`, `Damaged`, `Memory` or `Store`. Nothing is written. After a refusal of the store it answers
+    /// It is refused as `apply` would refuse it, by `Refused`, `Damaged`, `Memory` or `Store`. Nothing is written. After a refusal of the database it answers
     /// `Reopen`.
     pub fn plan(&mut self, alloc: Global, command: &Command) -> Result<Edits, Fault>
         ensures reads { EngineReads S.Store self.old self.new result }

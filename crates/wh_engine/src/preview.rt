@@ -110,7 +110,7 @@ fn preview_anew<S: Alter>(
 
 impl<S: Alter> Engine<S> {
     /// What a command of this kind and with these bytes would be answered now under a good id that no accepted command has, and what it would
-    /// write. It is refused as `apply` would refuse it. Nothing is written. After a refusal of the store it answers `Reopen`.
+    /// write. It is refused as `apply` would refuse it. Nothing is written. After a refusal of the database it answers `Reopen`.
     pub fn preview(
         &mut self,
         alloc: Global,

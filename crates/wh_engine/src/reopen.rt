@@ -22,7 +22,7 @@ use wh_store::{OpenFault, restart as restart_connection};
 /// Why a warehouse wasn't opened again, and what is left of it.
 #[derive(Drop)]
 pub enum NotReopened<D: Disk> {
-    /// The store refused its files.
+    /// The database refused its files.
     Files(Error, Leftover<D>),
     /// The files were opened, and the warehouse wasn't.
     Warehouse(OpenFault, Connection<FileStore<D>>),

@@ -37,7 +37,7 @@ fn row_after<T: PagedTable, S: Alter>(
     Ok(found)
 }
 
-/// Notes that the store refused a call, or leaves what was noted before.
+/// Notes that the database refused a call, or leaves what was noted before.
 pub(crate) fn note(session: &mut Session, is_stopped: bool)
     ensures { session.new ≡ record (session.old) { must_reopen = session.old.must_reopen || is_stopped } }
 {
@@ -73,7 +73,7 @@ impl<'e, S: Alter, T: PagedTable> Scan<'e, S, T> {
 impl<S: Alter> Engine<S> {
     ghost use Rattle.wh_engine.specs.contracts.engine.Engine.{the_row};
 
-    /// The next row of a table. After a fault none comes, and after a refusal of the store the engine has to be opened again.
+    /// The next row of a table. After a fault none comes, and after a refusal of the database the engine has to be opened again.
     fn advance<T: PagedTable>(
         &mut self,
         alloc: Global,
@@ -93,7 +93,7 @@ impl<S: Alter> Engine<S> {
 
     /// The next row of a table after those that the cursor handed out; of a new cursor the first. It is for a reader that goes
     /// through several tables, or hands the engine on between two rows. `Damaged`: a row of the part that is read with it is out of its type.
-    /// After a refusal of the store it answers `Reopen`, and after another fault no row comes any more.
+    /// After a refusal of the database it answers `Reopen`, and after another fault no row comes any more.
     pub fn next_row<T: PagedTable>(
         &mut self,
         alloc: Global,
@@ -112,7 +112,7 @@ impl<S: Alter> Engine<S> {
         Err(Fault::Reopen)
     }
 
-    /// The rows of a table in the order of their keys, one at a time. After a refusal of the store it answers `Reopen`.
+    /// The rows of a table in the order of their keys, one at a time. After a refusal of the database it answers `Reopen`.
     pub fn scan<T: PagedTable>(&mut self, alloc: Global) -> Result<Scan<'_, S, T>, Fault>
         ensures* refused { sem 𝓛 (RestsIfErr (the_row S.row S.Store) self.entry (λ scan. scan.engine.ghost_name) result (λ last. (last.tables ≡ self.old.tables) × (last.session ≡ self.old.session) × (last.writes ≡ self.old.writes))) }
         ensures same_reference { IfOk result (λ scan. scan.engine.ghost_name ≡ self.entry.ghost_name) }

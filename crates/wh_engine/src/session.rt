@@ -16,7 +16,7 @@ pub struct Session {
     pub format: Format,
     /// The policy in force.
     pub policy: Policy,
-    /// The store refused a call: the warehouse has to be opened again.
+    /// The database refused a call: the warehouse has to be opened again.
     pub must_reopen: bool,
 }
 

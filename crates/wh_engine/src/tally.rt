@@ -28,7 +28,7 @@ fn tally_facts<C: FactAggregate, S: Alter>(
 }
 
 impl<S: Alter> Engine<S> {
-    /// Has a tally count each fact by one of its keys, in whatever order they are stored. After a refusal of the store it
+    /// Has a tally count each fact by one of its keys, in whatever order they are stored. After a refusal of the database it
     /// answers `Reopen`. `Memory`: a growth was refused, or there are more facts than a `u64` counts. `Damaged`: a column that is read of a fact is out
     /// of its type.
     pub fn tally_facts<C: FactAggregate>(

@@ -29,7 +29,7 @@
 //! - `stops log STEP`, `stops database STEP`, `stops either STEP`: the disk of the log or of the database file, or one after the other, stops at each call of the
 //!   step in turn, those of opening and closing the files included, and then the machine crashes. The step is an `init`, an `open` of a warehouse, a `send`, a `batch`,
 //!   a `deliver`, a `check`, a `records`, a `query`, or a `night POLICY p1 s1`: a making, where there is no warehouse, and a delivery in one session. What is found is clean, and as it is with no
-//!   stop after what was acknowledged or after that and the next command; the step made again leads to what it leads to with no stop; and an engine whose store refused a call
+//!   stop after what was acknowledged or after that and the next command; the step made again leads to what it leads to with no stop; and an engine whose database refused a call
 //!   answers nothing more;
 //! - `stops_again DISK CALLS DISK STEP`: the first disk stops after none, so many, twice as many calls and so on, the machine crashes, and each time the second
 //!   disk stops at each call of the step made again, as above.

@@ -87,7 +87,7 @@ served (Err fault.Memory) is = tt
 served (Err (fault.Store cause)) is = absurd (cc)
 served (Err fault.Reopen) is = tt
 
--- so a reading of which it is noted whether the store refused a call
+-- so a reading of which it is noted whether the database refused a call
 noted_looks : {S A : Type 0} {g : Ghosts S} {old new : Engine S} (result : Result A Fault)
     → Spares (state_of g old.tables) (state_of g new.tables) (IsServed result) → new.session ≡ noting old.session result → Looks g old new
 noted_looks {S} {A} {g} {old} {new} result spares noted =

@@ -30,13 +30,13 @@ IsOfCommands (Holds limits commands) = ⊤
 IsOfCommands (Keeps stored) = ⊥
 IsOfCommands (Is db) = ⊥
 
--- It is at rest with a content; or the store refused a call, and a crash leaves the one or the other; or nothing is said.
+-- It is at rest with a content; or the database refused a call, and a crash leaves the one or the other; or nothing is said.
 pub data Standing : Type 0 where
   Unknown : Standing
   Rests : DatabaseContent → Standing
   LeftAt : DatabaseContent → DatabaseContent → Standing
 
--- what stands after what looked, or wrote nothing: what stood, which a crash leaves where the store refused a call
+-- what stands after what looked, or wrote nothing: what stood, which a crash leaves where the database refused a call
 abbrev pub LeavesIt : DatabaseContent → Standing → Type 0
 LeavesIt content after = (after ≡ Rests content) ⊎ (after ≡ LeftAt content content)
 

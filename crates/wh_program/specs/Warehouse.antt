@@ -85,8 +85,8 @@ pub record IsOpenedBy (stored : Stored) : Type 0 where
   pub session : Session
   pub says : SessionIs stored session
 
--- What opens what stands and does this to a warehouse: where there is none, that is the answer, and nothing changed. Over rows that anybody wrote it says whether they
--- are opened; over them, and in a database of any schema, what is done then.
+-- What opens what stands and does this to a warehouse: where there is none, that is the answer, and nothing changed. Over rows that anybody wrote it says
+-- whether they are opened; over them, and in a database of any schema, what is done then.
 abbrev pub Opens : (Limits → List Accepted → Told → Standing → Type 0) → (DatabaseContent → Told → Standing → Type 0) → DatabaseContent → Told → Standing → Type 0
 Opens does over Nothing told after = (after ≡ Rests Nothing) × IfOk told (λ a. a ≡ opening_answer opening.NotAWarehouse)
 Opens does over (Holds limits commands) told after = does limits commands told after ⊎ IsUnopened limits commands told after
@@ -113,7 +113,7 @@ pub record IsReplied (c : Command) (limits : Limits) (commands : List Accepted) 
   pub leaves : LeavesReplied limits commands c reply after
   pub tells : printed told ≡ sent_answer c.id reply
 
--- Where nothing was accepted, and the store refused no call, all is as it was; else nothing is said.
+-- Where nothing was accepted, and the database refused no call, all is as it was; else nothing is said.
 abbrev pub LeavesRefused : DatabaseContent → Result Reply Fault → Standing → Type 0
 LeavesRefused content (Ok (replies.Accepted receipt)) after = after ≡ Unknown
 LeavesRefused content (Ok (replies.Already receipt)) after = after ≡ Rests content

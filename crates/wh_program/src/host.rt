@@ -31,7 +31,7 @@ pub trait Visitor: Drop {
     /// Over what the connection holds at rest, what is answered, what the writer holds before and after, and what then stands.
     ghost promises: { Self → DatabaseContent → Self.Output → Option (List ℕ) → Option (List ℕ) → Standing → Type 0 };
 
-    /// Works on the connection, and hands it back, and whether the store refused it a call: its files are then to be opened anew.
+    /// Works on the connection, and hands it back, and whether the database refused it a call: its files are then to be opened anew.
     fn visit<T: Alter + Drop, W: Write>(
         self,
         alloc: Global,

@@ -125,7 +125,7 @@ AnswersStored format q filters columns stored (Err fault) = ⊤
 
 -- ---- of the accepted commands
 
--- The answer is given, or memory ran out or the store refused a call. Nothing else comes.
+-- The answer is given, or memory ran out or the database refused a call. Nothing else comes.
 abbrev pub Answers : List Accepted → QueryAsked → Result (Vec ℕ Global) ReportFault → Type 0
 Answers commands q (Ok text) = text.items ≡ query commands q
 Answers commands q (Err (Warehouse fault)) = IsWanting fault

@@ -164,7 +164,7 @@ fn answer_over<S: Alter>(
 }
 
 /// The answer to a query. Whether each of its columns has a reading under the policy in force is what `Query::reads` answers.
-/// `Warehouse`: the tables can't be read, and after a refusal of the store it is `Reopen`. `Inconsistent`: a row that a fact
+/// `Warehouse`: the tables can't be read, and after a refusal of the database it is `Reopen`. `Inconsistent`: a row that a fact
 /// names is missing, or there are more facts than can be counted.
 pub fn query<S: Alter>(
     alloc: Global,

@@ -60,7 +60,7 @@ IsOutInLines (Err (Warehouse Reopen)) old new lines = new ≡ old
 IsOutInLines (Err (Warehouse fault)) old new lines = (first : List ℕ) × (more : List (List ℕ)) × AreOut (first ∷ more) lines old new
 IsOutInLines (Err (Inconsistent table)) old new lines = ⊥
 
--- the fault isn't the store's: the writer failed, or memory ran out
+-- the fault isn't the database's: the writer failed, or memory ran out
 abbrev pub IsOfNoTable : ReportFault → Type 0
 IsOfNoTable Write = ⊤
 IsOfNoTable (Warehouse Memory) = ⊤

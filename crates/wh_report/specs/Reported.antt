@@ -138,7 +138,8 @@ label_in column t key = first_text key (labels_in column t)
 abbrev pub AreAllSales : Format → FactColumn → Stored → List KeyedSale → Type 0
 AreAllSales format which stored sales = IsPermutation (map read_keyed_sale sales) (map (shown_of which) (stored.rows (facts_table format)))
 
--- a row that a sale of the range names is missing in the table that is found; or that is the facts', and it has more than can be counted, or measures that no sale has
+-- a row that a sale of the range names is missing in the table that is found; or that is the facts', and it has more than can be counted, or measures that no
+-- sale has
 abbrev pub AreInconsistent : Format → Asked → LabelColumn → (ℕ → Option (List ℕ)) → List KeyedSale → Table → Type 0
 AreInconsistent format r column labels sales found = ((found ≡ label_column_table column) × HasNoLabel labels (sales_asked r sales)) ⊎ ((found ≡ facts_table format) × (AllByRecursion (λ s. IsMeasured (measures_of s)) sales → 4_294_967_295 ≤ length sales))
 
@@ -165,7 +166,7 @@ column_asked policy r = option_and_then (λ subject. option_map (column_of subje
 abbrev pub report_of : List Accepted → Asked → List ℕ
 report_of commands r = unwrap_or (option_and_then (λ subject. option_map (λ which. report commands subject which r) (reading_of subject r.mode)) (subject_in (current_policy commands) r.words)) []
 
--- It is given, or memory ran out or the store refused a call. Nothing else comes.
+-- It is given, or memory ran out or the database refused a call. Nothing else comes.
 abbrev pub Reports : List Accepted → Asked → Result (Vec ℕ Global) ReportFault → Type 0
 Reports commands r (Ok text) = text.items ≡ report_of commands r
 Reports commands r (Err (Warehouse fault)) = IsWanting fault

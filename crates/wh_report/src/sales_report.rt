@@ -62,7 +62,7 @@ fn report_over<S: Alter>(
 }
 
 /// The text of the report that is asked for. Whether its attribute has a reading under the policy in force is what
-/// `Request::reads` answers. `Warehouse`: the tables can't be read, and after a refusal of the store it is `Reopen`. `Inconsistent`: a row that a fact
+/// `Request::reads` answers. `Warehouse`: the tables can't be read, and after a refusal of the database it is `Reopen`. `Inconsistent`: a row that a fact
 /// names is missing, or there are more facts than can be counted.
 pub fn report<S: Alter>(
     alloc: Global,

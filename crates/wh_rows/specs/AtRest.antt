@@ -47,6 +47,6 @@ pub record IsWriting (before made : Option Tables) (s : State) : Type 0 where
   pub committed : Has before s.committed
   pub left : Leaves before s
 
--- the store refused the statement with an error of this cause
+-- the database refused the statement with an error of this cause
 abbrev pub IsCauseOf : List ℕ → Row → State → State → Cause → Type 0
 IsCauseOf text params old new cause = (error : Error) × (cause ≡ cause_of error) × Executes text params old new (Err error)

@@ -20,7 +20,7 @@ abbrev pub is_broken_rule : Error → Bool
 is_broken_rule (SqliteFailure (ConstraintViolation rule)) = true
 is_broken_rule _ = false
 
--- the store refused the statement with such an error
+-- the database refused the statement with such an error
 abbrev pub BreaksRule : List ℕ → Row → State → State → Type 0
 BreaksRule text params old new = (error : Error) × (is_broken_rule error ≡ true) × Executes text params old new (Err error)
 

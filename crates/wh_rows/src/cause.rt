@@ -1,4 +1,4 @@
-//! Why the store refuses a statement.
+//! Why the database refuses a statement.
 
 ghost use Rattle.std.specs.Prelude.{◌≡◌};
 ghost use Rattle.wh_rows.specs.Cause.{cause_of};

@@ -1,4 +1,4 @@
--- The rows of a query's answer, as the store hands them out one after the other.
+-- The rows of a query's answer, as the database hands them out one after the other.
 use Rattle.std.proofs.Common.{◌≡◌, ◌≤◌, ℕ, List, [], ◌∷◌, ◌++◌, Option, None, Some, Ok, inl, inr, sym, subst, arith}
 use Rattle.sqlite_trees.specs.declared.store.Store.{Ghosts}
 use Rattle.sqlite_resolve.specs.declared.compiled.Compiled.{Compiled}
@@ -98,7 +98,7 @@ module _ {S : Type 0} (g : Ghosts S) (text : List ℕ) (params : Row) (start : H
     all_given advances clean =
         shown_since text params (state g start) (state g mid) (state g now) (it.same (was_clean clean)) (was_plain clean) rows (advances clean text params rows (it.given (was_clean clean)))
 
-    -- the store refuses the next row
+    -- the database refuses the next row
     pub giving_refused : (e : Error) → (HasCleanDisk (state g now) → FailsToAdvance g mid now e) → HasCleanDisk (state g now) → FailsToQuery text params (state g start) (state g now) e
     giving_refused e fails clean =
         fails_to_query_since text params (state g start) (state g mid) (state g now) (it.same (was_clean clean)) (was_plain clean) it.survives.counts it.survives.limit e (fails clean text params rows (it.given (was_clean clean)))

@@ -1,4 +1,4 @@
--- Facts are counted one after the other by all of their keys, as the store hands out their rows.
+-- Facts are counted one after the other by all of their keys, as the database hands out their rows.
 use Rattle.std.proofs.Common.{◌≡◌, ◌≢◌, ◌⊎◌, ℕ, List, [], ◌∷◌, ◌++◌, map, Result, Err, IfErr, inl, inr, refl, sym, ap, subst, ◌∙◌}
 use Rattle.std.specs.Prelude.{IsTrue}
 use Rattle.std.specs.FinMap.{values}

@@ -1,4 +1,4 @@
--- Of the rows that a query shows, those that pass a test, read as the store hands them out.
+-- Of the rows that a query shows, those that pass a test, read as the database hands them out.
 use Rattle.std.proofs.Common.{◌≡◌, ℕ, Bool, true, false, cond, List, [], ◌∷◌, ◌++◌, map, filter, Option, None, Some, Result, Ok, Err, IfOk, IfErr, IsTrue, ◌&&◌, inl, inr, refl, sym, ap, subst, ◌∙◌}
 use Rattle.std.specs.Prelude.{Vec, ok_or}
 use Rattle.std.specs.declared.alloc.Global.{Global}

@@ -1,4 +1,4 @@
--- The rows of a table, each read as the store hands it out.
+-- The rows of a table, each read as the database hands it out.
 use Rattle.std.proofs.Common.{◌≡◌, ℕ, List, [], ◌∷◌, ◌++◌, Option, None, Some, Result, Err, IfOk, IfErr, inl, refl, subst}
 use Rattle.std.specs.Prelude.{Vec, ok_or}
 use Rattle.std.specs.declared.alloc.Global.{Global}

@@ -19,7 +19,7 @@ StandFor layout stored rows = IsPermutation stored (map layout.encode rows) × I
 abbrev pub ShowsSome : {K V : Type 0} → Layout K V → (Row → Bool) → List ℕ → Row → State → State → List V → Type 0
 ShowsSome layout pick text params old new rows = IsTrue (list_all layout.is_valid rows) × (answer : List Row) × Shown text params old new answer × (filter pick answer ≡ map layout.encode rows)
 
--- Memory ran out; or it shows a row that passes the test and is out of its type; or the store refused it.
+-- Memory ran out; or it shows a row that passes the test and is out of its type; or the database refused it.
 abbrev pub FailsToShowSome : {K V : Type 0} → Layout K V → Table → (Row → Bool) → List ℕ → Row → State → State → ReadFault → Type 0
 FailsToShowSome layout table pick text params old new Memory = ⊤
 FailsToShowSome layout table pick text params old new (Damaged which) = (which ≡ table) × (answer : List Row) × Shown text params old new answer × HasDamage layout (filter pick answer)

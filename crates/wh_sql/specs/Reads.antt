@@ -29,7 +29,7 @@ NeverReturns text = (schema : Schema) → ¬ Returns (understood schema text)
 
 -- ---- what it leaves
 
--- the store refused nothing
+-- the database refused nothing
 abbrev pub SparesStore : ReadFault → Type 0
 SparesStore Memory = ⊤
 SparesStore (Damaged table) = ⊤
@@ -47,7 +47,7 @@ NamesDamage stored Memory = ⊤
 NamesDamage stored (Damaged table) = HasDamageIn stored table
 NamesDamage stored (Store why) = ⊤
 
--- the store refused nothing, so the connection is as it was
+-- the database refused nothing, so the connection is as it was
 abbrev pub IsServed : {A : Type 0} → Result A ReadFault → Type 0
 IsServed result = IfErr result SparesStore
 
@@ -70,8 +70,8 @@ pub record Spares (old new : State) (calm : Type 0) : Type 0 where
   pub same : HasCleanDisk new → calm → IsAsItWas old new
   pub crash : HasCleanDisk new → (trees : Trees) → new.may_leave trees → old.may_leave trees
 
--- A call that reads rows is calm unless the store refused it. In tables at rest it meets no row out of its type. Whatever rows are stored, a table that it names
--- as damaged has such a row.
+-- A call that reads rows is calm unless the database refused it. In tables at rest it meets no row out of its type. Whatever rows are stored, a table that it
+-- names as damaged has such a row.
 pub record ReadsOnly {A : Type 0} (old new : State) (result : Result A ReadFault) : Type 0 where
   pub spares : Spares old new (IsServed result)
   pub sound : HasCleanDisk new → (t : Tables) → IsAtRest (Some t) old → IsUndamaged result
@@ -102,7 +102,7 @@ unasked cause.Disk = Store cause.Disk
 unasked cause.Size = Store cause.Size
 unasked cause.Interrupted = Store cause.Interrupted
 
--- Memory ran out for what was shown; or it shows a row that is out of its type; or the store refused it.
+-- Memory ran out for what was shown; or it shows a row that is out of its type; or the database refused it.
 abbrev pub FailsToShow : {K V : Type 0} → Layout K V → Table → List ℕ → Row → State → State → ReadFault → Type 0
 FailsToShow layout table text params old new Memory = ⊤
 FailsToShow layout table text params old new (Damaged which) = (which ≡ table) × (answer : List Row) × Shown text params old new answer × HasDamage layout answer
@@ -124,7 +124,7 @@ IsOfGreatestDamage stored Memory = ⊤
 IsOfGreatestDamage stored (Damaged which) = (which ≡ Change) × HasGreatestDamaged stored
 IsOfGreatestDamage stored (Store why) = ⊤
 
--- the rows are more than the store counts; or it refused to count them
+-- the rows are more than the database counts; or it refused to count them
 abbrev pub FailsToCount : ℕ → List ℕ → State → State → ReadFault → Type 0
 FailsToCount rows text old new Memory = ⊥
 FailsToCount rows text old new (Damaged which) = ⊥

@@ -1,4 +1,4 @@
--- Which statement the store refused.
+-- Which statement the database refused.
 use Rattle.std.specs.Prelude.{◌≡◌, ℕ, ◌≤◌, List, [], map}
 use Rattle.sqlite.specs.Order.{Row}
 use Rattle.sqlite.specs.State.{State, FailsToQuery}
@@ -9,11 +9,11 @@ use Rattle.sqlite.specs.declared.error.Error.{Error}
 use Rattle.wh_rows.specs.declared.cause.Cause.{Cause}
 use Rattle.wh_rows.specs.Cause.{cause_of}
 
--- the store refused the query with an error of this cause
+-- the database refused the query with an error of this cause
 abbrev pub IsCauseOfQuery : List ℕ → Row → State → State → Cause → Type 0
 IsCauseOfQuery text params old new cause = (error : Error) × (cause ≡ cause_of error) × FailsToQuery text params old new error
 
--- since the first of the connections the store refused one of these statements, with their parameters, and left the other
+-- since the first of the connections the database refused one of these statements, with their parameters, and left the other
 pub record IsOneRefused {S : Type 0} (store : Ghosts S) (refuses : List ℕ → Row → State → State → Cause → Type 0) (statements : List (List ℕ × Row)) (old new : Held S) (cause : Cause) : Type 0 where
   pub statement : List ℕ × Row
   pub among : Has statements statement

@@ -11,13 +11,13 @@ use wh_rows::{Cause, Table};
 /// Why the rows of a table weren't read.
 #[derive(Clone, Copy, Debug, PartialEq, Eq, Error)]
 pub enum ReadFault {
-    /// A growth was refused outside the store, and the store refused nothing.
+    /// A growth was refused outside the database, and the database refused nothing.
     #[error("memory ran out")]
     Memory,
     /// A row of this table that the call reads is out of its type.
     #[error("a row of a table is out of its type")]
     Damaged(Table),
-    /// The store refused the statement, for this cause.
+    /// The database refused the statement, for this cause.
     #[error("the store refused the statement")]
     Store(Cause),
 }

@@ -82,7 +82,7 @@ fn read_of_members<T: KeyedTable, M: SomeMembers>(
     }
 }
 
-/// Of the rows that a query shows, the facts of the members. The others are passed over as the store hands them out, whatever they hold.
+/// Of the rows that a query shows, the facts of the members. The others are passed over as the database hands them out, whatever they hold.
 /// `Damaged` is answered at the end of all that is shown. `Memory`: also where there are more rows than a `u64` counts.
 pub(crate) fn rows_of_members<T: KeyedTable, M: SomeMembers, S: Alter>(
     alloc: Global,

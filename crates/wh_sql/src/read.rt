@@ -44,7 +44,7 @@ pub(crate) fn read_on<T: KeyedTable>(
     }
 }
 
-/// The rows of the table that a query shows, each read as the store hands it out, with what the connection says of them.
+/// The rows of the table that a query shows, each read as the database hands it out, with what the connection says of them.
 /// `Damaged` is answered at the end of all that is shown. `Memory`: also where there are more rows than a `u64` counts.
 pub(crate) fn rows_shown<T: KeyedTable, S: Alter>(
     alloc: Global,
@@ -78,7 +78,7 @@ pub(crate) fn rows_shown<T: KeyedTable, S: Alter>(
     Err(ReadFault::Memory)
 }
 
-/// All rows of the table. `Damaged`: one of them is out of its type. `Store`: the format hasn't the table, or the store refused for another cause.
+/// All rows of the table. `Damaged`: one of them is out of its type. `Store`: the format hasn't the table, or the database refused for another cause.
 pub fn all<T: KeyedTable, S: Alter>(
     alloc: Global,
     conn: &mut Connection<S>,
@@ -116,7 +116,7 @@ pub fn get<T: KeyedTable, S: Alter>(
     Ok(rows.pop())
 }
 
-/// How many rows the table has. `Size`: more than the store counts.
+/// How many rows the table has. `Size`: more than the database counts.
 pub fn count<T: KeyedTable, S: Alter>(
     alloc: Global,
     conn: &mut Connection<S>,
@@ -135,7 +135,7 @@ pub fn count<T: KeyedTable, S: Alter>(
     count_shown(T::table(), &shown)
 }
 
-/// The number that a query shows in its only row. `Size`: the store counts no further.
+/// The number that a query shows in its only row. `Size`: the database counts no further.
 fn count_shown(table: Table, shown: &[Row]) -> Result<u64, ReadFault>
     ensures { (rows : ℕ) → shown.now ≡ (number_of rows ∷ []) ∷ [] → MatchResult result (λ count. count ≡ rows) (λ refusal. (refusal ≡ Store Size) × (9223372036854775807 ≤ rows)) }
 {

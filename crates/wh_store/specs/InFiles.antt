@@ -41,7 +41,7 @@ pub record IsReopened (before again : State) : Type 0 where
 
 -- ---- files that aren't opened
 
--- The store refuses the files with this error, and this is left of them. Where the disk returned what was written, memory ran out, or a call of the disk
+-- The database refuses the files with this error, and this is left of them. Where the disk returned what was written, memory ran out, or a call of the disk
 -- failed, or a file is full, or they hold no database and aren't new, as the error says; and a database that they hold is still there.
 abbrev pub RefusesFiles : {D : Type 0} {g : Ghosts D} → Files D → Leftover D g → Error → Type 0
 RefusesFiles files left error = IsCleanLeft left → FailsToOpenFiles files left error × LeavesFiles files left

@@ -24,7 +24,7 @@ unread reading.Memory = Memory
 unread (reading.Damaged table) = Damaged table
 unread (reading.Store cause) = Store cause
 
--- the store refused nothing
+-- the database refused nothing
 abbrev pub SparesStore : OpenFault → Type 0
 SparesStore (Store cause) = ⊥
 SparesStore fault = ⊤
@@ -33,7 +33,7 @@ SparesStore fault = ⊤
 abbrev pub IsServed : {A : Type 0} → Result A OpenFault → Type 0
 IsServed result = IfErr result SparesStore
 
--- It is refused with this fault: memory ran out; or the store refused to show the format; or it is the format's fault. No row of a warehouse is damaged.
+-- It is refused with this fault: memory ran out; or the database refused to show the format; or it is the format's fault. No row of a warehouse is damaged.
 abbrev pub IsRefusedWith : Format → Bool → Tables → State → State → OpenFault → Type 0
 IsRefusedWith newest second t old new Memory = ⊤
 IsRefusedWith newest second t old new (Store cause) = IsCauseOfQuery texts.meta.get (Text (codes "format") ∷ []) old new cause

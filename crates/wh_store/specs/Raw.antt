@@ -27,7 +27,7 @@ IsNumberIn stored name number = (found : Option MetaRow) × IsLastOf meta (rows_
 abbrev pub FormatIs : Format → Bool → Stored → Result Format OpenFault → Type 0
 FormatIs newest second stored told = (number : Option ℤ) × IsNumberIn stored (codes "format") number × (format_of newest second number ≡ told)
 
--- It is refused with this fault: memory ran out, or the store refused the call; or the row of the format is damaged; or the format is why.
+-- It is refused with this fault: memory ran out, or the database refused the call; or the row of the format is damaged; or the format is why.
 abbrev pub IsRefusedOn : Format → Bool → Stored → OpenFault → Type 0
 IsRefusedOn newest second stored Memory = ⊤
 IsRefusedOn newest second stored (Store cause) = ⊤

@@ -58,7 +58,7 @@ AreValid layout cursor = IsTrue (list_all layout.is_valid (into_iter_items curso
 
 -- ---- why the next part isn't read
 
--- The question for the part of a table after a key of it fails: memory ran out, the answer has a damaged row, or the store refused the question.
+-- The question for the part of a table after a key of it fails: memory ran out, the answer has a damaged row, or the database refused the question.
 abbrev pub FailsToShowPart : {S K V A : Type 0} → Ghosts S → Layout K V → Table → PartTexts → (K → Row) → Option K → Tables S → Tables S → Result A ReadFault → Type 0
 FailsToShowPart g layout table texts bind after old new result =
     HasCleanDisk (state_of g new) → HasKey layout after → IfErr result (FailsToShow layout table (part_text texts after) (bind_part bind after) (state_of g old) (state_of g new))

@@ -35,6 +35,6 @@ Undoes old new = HasCleanDisk new → (before made : Option Tables) → IsWritin
 abbrev pub SaysInWriting : {S : Type 0} → Ghosts S → Opened S → Opened S → Type 0 → Type 0
 SaysInWriting g old new fact = HasCleanDisk (state_of g new) → (before : Option Tables) (made : Tables) → IsWriting before (Some made) (state_of g old) → fact
 
--- an error that is not of memory tells which of these statements the store refused, and why
+-- an error that is not of memory tells which of these statements the database refused, and why
 abbrev pub TellsRefused : {S A : Type 0} → Ghosts S → List (List ℕ × Row) → Opened S → Opened S → Result A Cause → Type 0
 TellsRefused g statements old new result = IfErr result (λ cause. cause ≢ Memory → IsOneRefused g IsCauseOf statements old.conn new.conn cause)

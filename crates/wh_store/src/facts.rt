@@ -1,6 +1,6 @@
 //! The facts of a format: in format 1 they stand in the table `fact`, in format 2 in `fact2`.
 //!
-//! Over tables of the first format the store refuses statements on `fact2`, which isn't there. Over tables of the second a call for the first goes to
+//! Over tables of the first format the database refuses statements on `fact2`, which isn't there. Over tables of the second a call for the first goes to
 //! `fact`, which an upgrade leaves empty.
 
 ghost use Rattle.std.specs.Prelude.{◌≡◌, ◌≢◌, ◌⊎◌, ◌+◌, ◌<◌, ◌≤◌, [], ◌∷◌, pos, map, filter, length, false, if◌then◌else◌, Option, Some, IsTrue, IfOk, IfErr, OnOk, ⊤};
@@ -57,7 +57,7 @@ impl<S: Alter> Tables<S> {
         }
     }
 
-    /// How many facts of the format there are: sales that stand, as withdrawn ones have no row. `Store(Size)`: more than the store counts.
+    /// How many facts of the format there are: sales that stand, as withdrawn ones have no row. `Store(Size)`: more than the database counts.
     pub fn count_facts(&mut self, alloc: Global, format: Format) -> Result<u64, ReadFault>
         ensures reads { ReadsOnly (state_of S.Store self.old) (state_of S.Store self.new) result }
         ensures count { SaysAtRest (state_of S.Store self.old) (state_of S.Store self.new) (λ t. IfOk result (λ count. count ≡ len (facts_in format t))) }

@@ -35,10 +35,10 @@ pub enum OpenFault {
     /// A row that is needed isn't there, or has a value out of its type.
     #[error("a row that is needed is missing, or out of its type")]
     Damaged(Table),
-    /// A growth was refused outside the store, and the store refused nothing.
+    /// A growth was refused outside the database, and the database refused nothing.
     #[error("memory ran out")]
     Memory,
-    /// The store refused a statement, for this cause.
+    /// The database refused a statement, for this cause.
     #[error("the store refused a statement")]
     Store(Cause),
 }

@@ -160,7 +160,7 @@ impl<S: Alter> Tables<S> {
         get::<T, S>(alloc, &mut self.conn, key)
     }
 
-    /// How many rows a table has. `Store(Size)`: more than the store counts.
+    /// How many rows a table has. `Store(Size)`: more than the database counts.
     pub fn count<T: KeyedTable>(&mut self, alloc: Global) -> Result<u64, ReadFault>
         ensures reads { ReadsOnly (state_of S.Store self.old) (state_of S.Store self.new) result }
         ensures count { SaysAtRest (state_of S.Store self.old) (state_of S.Store self.new) (λ t. IfOk result (λ count. count ≡ len (T.rows t))) }
@@ -219,7 +219,7 @@ impl<S: Alter> Tables<S> {
         greatest_anchor(alloc, &mut self.conn, dim)
     }
 
-    /// Begins a transaction, to which the tables belong until it ends. The error is the cause for which the store refused it.
+    /// Begins a transaction, to which the tables belong until it ends. The error is the cause for which the database refused it.
     pub fn begin(&mut self) -> Result<Writing<'_, S>, Cause>
         ensures* refused { sem 𝓛 (RestsIfErr (the_row S.row S.Store) self.entry (λ writing. writing.tables.ghost_name) result (λ last. FailsToBegin (state S.Store self.old.conn) (state S.Store last.conn) result)) }
         ensures same_reference { IfOk result (λ writing. writing.tables.ghost_name ≡ self.entry.ghost_name) }

@@ -38,7 +38,7 @@ use wh_sql::{
 };
 
 /// Edits of the tables. They are kept by `commit` alone: where it is dropped before that, it leaves nothing. After a call with an error it keeps
-/// nothing either. The error is the cause for which the store refused, or `Size` where more keys are written than a `u64` counts.
+/// nothing either. The error is the cause for which the database refused, or `Size` where more keys are written than a `u64` counts.
 pub struct Writing<'t, S: Alter> {
     tables: &'t mut Tables<S>,
     /// How many keys it has written.

@@ -10,7 +10,7 @@ use wh_store::{MakeFault, OpenFault};
 /// Why a step was not made.
 #[derive(Clone, Copy, Debug, PartialEq, Eq, Drop)]
 pub enum Trouble {
-    /// The store refused it.
+    /// The database refused it.
     Refused(Cause),
     /// A stored value of this table is out of its type.
     Damaged(Table),

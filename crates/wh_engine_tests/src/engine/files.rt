@@ -211,7 +211,7 @@ fn checked<S: Alter>(alloc: Global, engine: &mut Engine<S>) -> Answer {
     word(alloc, word_of_verdict(alloc, engine, verdict))
 }
 
-/// What a check came to. Where the store refused a call, the engine must answer `Reopen` from then on.
+/// What a check came to. Where the database refused a call, the engine must answer `Reopen` from then on.
 fn word_of_verdict<S: Alter>(
     alloc: Global,
     engine: &mut Engine<S>,
@@ -235,7 +235,7 @@ fn looked_at<S: Alter>(alloc: Global, engine: &mut Engine<S>, work: Work<'_>) ->
     word(alloc, word_of_reading(alloc, engine, work, found))
 }
 
-/// What a reading came to. Where the store refused a call, the engine must answer `Reopen` from then on.
+/// What a reading came to. Where the database refused a call, the engine must answer `Reopen` from then on.
 fn word_of_reading<S: Alter>(
     alloc: Global,
     engine: &mut Engine<S>,
@@ -280,7 +280,7 @@ fn delivered<S: Alter>(
     Ok(out)
 }
 
-/// What a delivery came to. Where the store refused a call, the engine must answer `Reopen` from then on.
+/// What a delivery came to. Where the database refused a call, the engine must answer `Reopen` from then on.
 fn word_of_stop<S: Alter>(
     alloc: Global,
     engine: &mut Engine<S>,
@@ -317,7 +317,7 @@ fn takes_nothing<S: Alter>(alloc: Global, engine: &mut Engine<S>, command: &Comm
     must_reopen(&engine.apply(alloc, command))
 }
 
-/// What a command came to. Where the store refused a call, the engine must answer `Reopen` from then on.
+/// What a command came to. Where the database refused a call, the engine must answer `Reopen` from then on.
 fn word_of<S: Alter>(
     alloc: Global,
     engine: &mut Engine<S>,

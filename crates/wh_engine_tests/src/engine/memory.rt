@@ -59,7 +59,7 @@ fn must_reopen(found: &Result<Vec<u8>, Fault>) -> bool {
     matches!(found, Err(Fault::Reopen))
 }
 
-/// Fails where a reading answers otherwise than with this text or that memory ran out, or, made again after a refusal of the store, otherwise than
+/// Fails where a reading answers otherwise than with this text or that memory ran out, or, made again after a refusal of the database, otherwise than
 /// that the warehouse has to be opened again.
 fn expect_whole_or_short(rt: &impl Abort, alloc: Global, words: &str, text: &str) {
     let Ok(mut engine) = warehouse(alloc) else {

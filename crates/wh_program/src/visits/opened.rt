@@ -36,7 +36,7 @@ pub trait Work: Drop {
             → (after : Standing) × over self content result after × Stands after (state_of S.Store engine.new.tables) };
 }
 
-/// Whether it was the store that refused an opening.
+/// Whether it was the database that refused an opening.
 pub fn is_of_store(fault: &OpenFault) -> bool {
     matches!(fault, OpenFault::Store(_))
 }

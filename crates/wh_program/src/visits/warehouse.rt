@@ -27,7 +27,7 @@ use wh_engine::{Command, CommandKind, Engine, InitFault};
 use wh_policy::{POLICY_LIMIT, Policy};
 use wh_rows::Limits;
 
-/// Whether it was the store that refused a making.
+/// Whether it was the database that refused a making.
 fn is_stopped(fault: &InitFault) -> bool {
     matches!(fault, InitFault::Store(_))
 }
