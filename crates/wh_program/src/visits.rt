@@ -1,11 +1,11 @@
 //! What each word does over the files that it names.
 
-ghost use Rattle.std.specs.Prelude.{◌≡◌};
+ghost use Rattle.std.specs.Prelude.{◌≡◌, Some};
 ghost use Rattle.wh_program.specs.Answer.{status_code};
 ghost use Rattle.wh_program.specs.Run.{GoesOut, Prints};
 ghost use Rattle.wh_program.specs.Tasks.{Runs, RunsShut, SparesOthers};
 ghost use Rattle.wh_program.specs.Warehouse.{printed};
-ghost use Rattle.wh_words.specs.Task.{task_in, warehouse_of};
+ghost use Rattle.wh_words.specs.Task.{Over, task_in, warehouse_of, work_in};
 
 pub(crate) mod delivery;
 pub(crate) mod dump;
@@ -41,7 +41,46 @@ use crate::visits::warehouse::{init, plan, send, status, upgrade};
 use std::alloc::Global;
 use std::io::Write;
 use wh_batch::CommandKind;
-use wh_words::Task;
+use wh_words::{Task, Work};
+
+/// Does the work over the warehouse in a file, and prints the answer.
+fn run_over<H: Host, W: Write>(
+    alloc: Global,
+    file: &str,
+    work: Work,
+    host: &mut H,
+    out: &mut W,
+) -> Status
+    ensures runs { Runs (H.holds host.old) (H.refuses host.old) (H.stores host.old) (H.stores host.new) (host.new ≡ host.old) (λ told. Prints (W.contents out.old) (W.contents out.new) (status_code result) (printed told)) (λ cut told. GoesOut cut (W.contents out.old) (W.contents out.new) (status_code result) (printed told)) (Over file.now (work_in work.entry)) }
+    ensures others { SparesOthers (H.stores host.old) (H.stores host.new) (Some file.now) }
+    ensures shut { RunsShut (H.shut host.old) (H.holds host.old) (host.new ≡ host.old) (λ told. Prints (W.contents out.old) (W.contents out.new) (status_code result) (printed told)) (Over file.now (work_in work.entry)) }
+{
+    let answer = match work {
+        Work::Deliver { manifest } => return deliver(alloc, file, manifest, host, out),
+        Work::Dump(table) => return print_dump(alloc, file, table, host, out),
+        Work::Session => return print(out, Status::Refused, SESSION_LINE),
+        Work::Init { policy } => init(alloc, file, policy, host),
+        Work::Load { kind, id, path } => {
+            send(alloc, file, CommandKind::Batch(kind), id, path, host)
+        }
+        Work::Migrate { id, policy } => {
+            send(alloc, file, CommandKind::Migration, id, policy, host)
+        }
+        Work::Upgrade { id } => upgrade(alloc, file, id, host),
+        Work::Plan { kind, id, path } => plan(alloc, file, kind, id, path, host),
+        Work::Explain { kind, path } => explain(alloc, file, kind, path, host),
+        Work::ExplainInit { policy } => explain_init(alloc, policy, host),
+        Work::Records { dim, from } => records(alloc, file, dim, from, host),
+        Work::Query(asked) => visit_query(alloc, file, asked, host),
+        Work::Report(asked) => visit_report(alloc, file, asked, host),
+        Work::Reports { list } => reports(alloc, file, list, host),
+        Work::Queries { list } => queries(alloc, file, list, host),
+        Work::Views => views(alloc, file, host),
+        Work::Check => check(alloc, file, host),
+        Work::Status => status(alloc, file, host),
+    };
+    print_answer(out, answer)
+}
 
 /// Does what the words of a command ask for, and prints the answer.
 pub(crate) fn run_task<H: Host, W: Write>(
@@ -58,43 +97,6 @@ pub(crate) fn run_task<H: Host, W: Write>(
         Task::Trial { dim, path, policy } => {
             print_answer(out, trial(alloc, dim, path, policy, host))
         }
-        Task::Init { file, policy } => print_answer(out, init(alloc, file, policy, host)),
-        Task::Load {
-            file,
-            kind,
-            id,
-            path,
-        } => {
-            let kind = CommandKind::Batch(kind);
-            print_answer(out, send(alloc, file, kind, id, path, host))
-        }
-        Task::Migrate { file, id, policy } => {
-            let kind = CommandKind::Migration;
-            print_answer(out, send(alloc, file, kind, id, policy, host))
-        }
-        Task::Upgrade { file, id } => print_answer(out, upgrade(alloc, file, id, host)),
-        Task::Deliver { file, manifest } => deliver(alloc, file, manifest, host, out),
-        Task::Plan {
-            file,
-            kind,
-            id,
-            path,
-        } => print_answer(out, plan(alloc, file, kind, id, path, host)),
-        Task::Explain { file, kind, path } => {
-            print_answer(out, explain(alloc, file, kind, path, host))
-        }
-        Task::ExplainInit { policy, .. } => print_answer(out, explain_init(alloc, policy, host)),
-        Task::Records { file, dim, from } => {
-            print_answer(out, records(alloc, file, dim, from, host))
-        }
-        Task::Query { file, asked } => print_answer(out, visit_query(alloc, file, asked, host)),
-        Task::Report { file, asked } => print_answer(out, visit_report(alloc, file, asked, host)),
-        Task::Reports { file, list } => print_answer(out, reports(alloc, file, list, host)),
-        Task::Queries { file, list } => print_answer(out, queries(alloc, file, list, host)),
-        Task::Dump { file, table } => print_dump(alloc, file, table, host, out),
-        Task::Views { file } => print_answer(out, views(alloc, file, host)),
-        Task::Check { file } => print_answer(out, check(alloc, file, host)),
-        Task::Status { file } => print_answer(out, status(alloc, file, host)),
-        Task::Session { .. } => print(out, Status::Refused, SESSION_LINE),
+        Task::Over { file, work } => run_over(alloc, file, work, host, out),
     }
 }

@@ -20,7 +20,7 @@ use std::convert::AsStr;
 use std::io::Write;
 use wh_program::{Host, HostError, no_file, print_answer, print_usage};
 use wh_report::{WriteFailed, write_whole};
-use wh_words::{LINE_LIMIT, Line, Request, Task, parse, read_line};
+use wh_words::{LINE_LIMIT, Line, Request, Task, Work, parse, read_line};
 
 /// What is printed for a line that is no command.
 const NO_COMMAND_TEXT: &[u8] =
@@ -159,7 +159,12 @@ fn session_file<'a>(request: &Request<'a>) -> Option<&'a str>
     ensures { option_map (λ file. file.now) result ≡ session_of (asked_in request.now) }
 {
     match request {
-        Request::Task(Task::Session { file }) => Some(file),
+        Request::Task(
+            Task::Over {
+                file,
+                work: Work::Session,
+            },
+        ) => Some(file),
         _ => None,
     }
 }

@@ -18,6 +18,8 @@ use Rattle.wh_words.specs.WrongWord.{no_dimension_line, no_kind_line, no_command
 use Rattle.wh_words.specs.declared.command.AskedReport.{AskedReport}
 use Rattle.wh_words.specs.declared.command.Task.{Task as TaskFound}
 use Rattle.wh_words.specs.declared.command.Task.TheVariants as found
+use Rattle.wh_words.specs.declared.command.Work.{Work as WorkFound}
+use Rattle.wh_words.specs.declared.command.Work.TheVariants as doing
 use Rattle.wh_words.specs.declared.query.AskedQuery.{AskedQuery}
 
 -- the words of a report: the attribute, the mode, and the first and the last day, as they were given
@@ -73,26 +75,29 @@ report_words asked = record { attribute = asked.attribute.now; mode = asked.mode
 abbrev pub query_words : AskedQuery → QueryWords
 query_words asked = record { columns = asked.columns.items; conditions = asked.conditions.items; from = asked.from.now; to = asked.to.now; as_table = asked.as_table }
 
+abbrev pub work_in : WorkFound → Work
+work_in (doing.Explain kind path) = Explain kind (optional_text path)
+work_in (doing.ExplainInit policy) = ExplainInit (optional_text policy)
+work_in (doing.Records dim from) = Records dim from
+work_in (doing.Query asked) = Query (query_words asked)
+work_in (doing.Init policy) = Init policy.now
+work_in (doing.Load kind id path) = Load kind id.now path.now
+work_in (doing.Migrate id policy) = Migrate id.now policy.now
+work_in (doing.Upgrade id) = Upgrade id.now
+work_in (doing.Deliver manifest) = Deliver manifest.now
+work_in (doing.Report asked) = Report (report_words asked)
+work_in (doing.Reports list) = Reports list.now
+work_in (doing.Queries list) = Queries list.now
+work_in (doing.Dump table) = Dump table
+work_in doing.Views = Views
+work_in doing.Status = Status
+work_in doing.Session = Session
+work_in (doing.Plan kind id path) = Plan kind id.now path.now
+work_in doing.Check = Check
+
 abbrev pub task_in : TaskFound → Task
 task_in (found.Trial dim path policy) = Trial dim path.now (optional_text policy)
-task_in (found.Explain file kind path) = Over file.now (Explain kind (optional_text path))
-task_in (found.ExplainInit file policy) = Over file.now (ExplainInit (optional_text policy))
-task_in (found.Records file dim from) = Over file.now (Records dim from)
-task_in (found.Query file asked) = Over file.now (Query (query_words asked))
-task_in (found.Init file policy) = Over file.now (Init policy.now)
-task_in (found.Load file kind id path) = Over file.now (Load kind id.now path.now)
-task_in (found.Migrate file id policy) = Over file.now (Migrate id.now policy.now)
-task_in (found.Upgrade file id) = Over file.now (Upgrade id.now)
-task_in (found.Deliver file manifest) = Over file.now (Deliver manifest.now)
-task_in (found.Report file asked) = Over file.now (Report (report_words asked))
-task_in (found.Reports file list) = Over file.now (Reports list.now)
-task_in (found.Queries file list) = Over file.now (Queries list.now)
-task_in (found.Dump file table) = Over file.now (Dump table)
-task_in (found.Views file) = Over file.now Views
-task_in (found.Status file) = Over file.now Status
-task_in (found.Session file) = Over file.now Session
-task_in (found.Plan file kind id path) = Over file.now (Plan kind id.now path.now)
-task_in (found.Check file) = Over file.now Check
+task_in (found.Over file w) = Over file.now (work_in w)
 
 -- ---- the commands
 

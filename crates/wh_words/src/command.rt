@@ -6,9 +6,9 @@ ghost use Rattle.clap.specs.declared.error.ErrorKind.TheVariants.{OutOfMemory};
 ghost use Rattle.wh_rows.specs.Names.{table_of_name};
 ghost use Rattle.wh_words.specs.Asked.{asked_by, asked_of, asked_to, faults_in};
 ghost use Rattle.wh_words.specs.CommandLine.{CommandLine, has_operands, program_app, words_of};
-ghost use Rattle.wh_words.specs.Given.{as_number, given_in, optional_text};
+ghost use Rattle.wh_words.specs.Given.{as_number, given_in, optional_text, word_for};
 ghost use Rattle.wh_words.specs.Request.{asked_in, Asks, IsDeclined, IsReadAs};
-ghost use Rattle.wh_words.specs.Task.{asks_of, check_command, command_of, deliver_command, dump_command, explain_command, from_asked, init_command, load_command, migrate_command, plan_command, queries_command, records_command, report_command, reports_command, session_command, status_command, task_in, trial_command, upgrade_command, views_command};
+ghost use Rattle.wh_words.specs.Task.{FILE, Over, asks_of, command_of, deliver_command, dump_command, explain_command, from_asked, init_command, load_command, migrate_command, plan_command, queries_command, records_command, report_command, reports_command, trial_command, upgrade_command, work_in};
 ghost use Rattle.wh_words.specs.WrongWord.{wrong_word_line};
 
 use crate::app::program_app;
@@ -26,6 +26,76 @@ use wh_batch::{CommandKind, Kind, Mode, read_number};
 use wh_policy::Dim;
 use wh_rows::Table;
 
+/// What is to be done with the warehouse in a file.
+#[derive(Debug, Drop)]
+pub enum Work<'a> {
+    /// What the input in the file `path` would be answered under a new id, and why; or what a kind takes.
+    Explain {
+        kind: CommandKind,
+        path: Option<&'a str>,
+    },
+    /// Whether a warehouse could be made under the policy in a file, and why not; or what a policy is. Nothing is asked of the warehouse.
+    ExplainInit {
+        policy: Option<&'a str>,
+    },
+    /// The records that carry a dimension's members to another file, from the one of this number on.
+    Records {
+        dim: Dim,
+        from: u32,
+    },
+    /// What was sold, by some attributes, for a slice of the sales.
+    Query(AskedQuery<'a>),
+    /// Its making, under the policy in a file.
+    Init {
+        policy: &'a str,
+    },
+    /// The load of the batch in the file `path`, under an id.
+    Load {
+        kind: Kind,
+        id: &'a str,
+        path: &'a str,
+    },
+    /// Its migration to the policy in a file, under an id.
+    Migrate {
+        id: &'a str,
+        policy: &'a str,
+    },
+    /// Its upgrade to the second format, under an id.
+    Upgrade {
+        id: &'a str,
+    },
+    /// The delivery of the commands that the file `manifest` lists.
+    Deliver {
+        manifest: &'a str,
+    },
+    /// What was sold, by an attribute.
+    Report(AskedReport<'a>),
+    /// The reports that the file `list` lists.
+    Reports {
+        list: &'a str,
+    },
+    /// The queries that the file `list` lists.
+    Queries {
+        list: &'a str,
+    },
+    /// A table of it.
+    Dump(Table),
+    /// The SQL of views over it.
+    Views,
+    /// How much it holds.
+    Status,
+    /// The answers to the commands of standard input, over one open of its file.
+    Session,
+    /// What a load, a migration or an upgrade would write.
+    Plan {
+        kind: CommandKind,
+        id: &'a str,
+        path: &'a str,
+    },
+    /// Whether it is what its commands define.
+    Check,
+}
+
 /// What a command is to do.
 #[derive(Debug, Drop)]
 pub enum Task<'a> {
@@ -35,98 +105,10 @@ pub enum Task<'a> {
         path: &'a str,
         policy: Option<&'a str>,
     },
-    /// What the input in the file `path` would be answered under a new id, and why; or what a kind takes.
-    Explain {
+    /// Work over the warehouse in `file`.
+    Over {
         file: &'a str,
-        kind: CommandKind,
-        path: Option<&'a str>,
-    },
-    /// Whether a warehouse could be made under the policy in a file, and why not; or what a policy is. Nothing is asked of `file`.
-    ExplainInit {
-        file: &'a str,
-        policy: Option<&'a str>,
-    },
-    /// The records that carry a dimension's members to another file, from the one of this number on.
-    Records {
-        file: &'a str,
-        dim: Dim,
-        from: u32,
-    },
-    /// What was sold, by some attributes, for a slice of the sales of the warehouse in `file`.
-    Query {
-        file: &'a str,
-        asked: AskedQuery<'a>,
-    },
-    /// The making of the warehouse in `file`, under the policy in a file.
-    Init {
-        file: &'a str,
-        policy: &'a str,
-    },
-    /// The load of the batch in the file `path` into the warehouse in `file`, under an id.
-    Load {
-        file: &'a str,
-        kind: Kind,
-        id: &'a str,
-        path: &'a str,
-    },
-    /// The migration of the warehouse in `file` to the policy in a file, under an id.
-    Migrate {
-        file: &'a str,
-        id: &'a str,
-        policy: &'a str,
-    },
-    /// The upgrade of the warehouse in `file` to the second format, under an id.
-    Upgrade {
-        file: &'a str,
-        id: &'a str,
-    },
-    /// The delivery of the commands that the file `manifest` lists to the warehouse in `file`.
-    Deliver {
-        file: &'a str,
-        manifest: &'a str,
-    },
-    /// What was sold, by an attribute of the warehouse in `file`.
-    Report {
-        file: &'a str,
-        asked: AskedReport<'a>,
-    },
-    /// The reports that the file `list` lists, of the warehouse in `file`.
-    Reports {
-        file: &'a str,
-        list: &'a str,
-    },
-    /// The queries that the file `list` lists, of the warehouse in `file`.
-    Queries {
-        file: &'a str,
-        list: &'a str,
-    },
-    /// A table of the warehouse in `file`.
-    Dump {
-        file: &'a str,
-        table: Table,
-    },
-    /// The SQL of views over the warehouse in `file`.
-    Views {
-        file: &'a str,
-    },
-    /// How much the warehouse in `file` holds.
-    Status {
-        file: &'a str,
-    },
-    /// The answers to the commands of standard input, over one open of `file`.
-    Session {
-        file: &'a str,
-    },
-    /// What a load, a migration or an upgrade would write.
-    Plan {
-        file: &'a str,
-        kind: CommandKind,
-        id: &'a str,
-        path: &'a str,
-    },
-    /// Whether the warehouse in `file` is what its commands define.
-    Check {
-        file: &'a str,
+        work: Work<'a>,
     },
 }
 
@@ -194,6 +176,16 @@ pub(crate) fn wrong_word<'a>(
     Ok(Request::Usage(line))
 }
 
+/// This work over the warehouse in FILE.
+pub(crate) fn over<'a>(given: &ArgMatches<'a>, work: Work<'a>) -> Request<'a>
+    ensures { asked_in result ≡ Some (Ok (Over (word_for (given_in given.now) FILE) (work_in work.entry))) }
+{
+    Request::Task(Task::Over {
+        file: word_for(given, "FILE"),
+        work,
+    })
+}
+
 /// The trial of a batch of a dimension.
 fn trial_request<'a>(alloc: Global, given: &ArgMatches<'a>) -> Result<Request<'a>, AllocError>
     ensures { IfOk result (λ request. asked_in request ≡ Some (asks_of trial_command (given_in given.now))) }
@@ -214,13 +206,12 @@ fn explain_request<'a>(alloc: Global, given: &ArgMatches<'a>) -> Result<Request<
     ensures { IfOk result (λ request. asked_in request ≡ Some (asks_of explain_command (given_in given.now))) }
 {
     let kind = word_for(given, "KIND");
-    let file = word_for(given, "FILE");
     let path = optional_word(given, "INPUT");
     if kind == "init" {
-        return Ok(Request::Task(Task::ExplainInit { file, policy: path }));
+        return Ok(over(given, Work::ExplainInit { policy: path }));
     }
     match CommandKind::from_word(kind) {
-        Some(kind) => Ok(Request::Task(Task::Explain { file, kind, path })),
+        Some(kind) => Ok(over(given, Work::Explain { kind, path })),
         None => wrong_word(alloc, "KIND", kind, EXPLAINED_KINDS),
     }
 }
@@ -247,22 +238,20 @@ fn records_request<'a>(alloc: Global, given: &ArgMatches<'a>) -> Result<Request<
         return wrong_word(alloc, "DIMENSION", dimension, DIMENSIONS);
     };
     match from_asked(optional_word(given, "FROM")) {
-        Ok(from) => Ok(Request::Task(Task::Records {
-            file: word_for(given, "FILE"),
-            dim,
-            from,
-        })),
+        Ok(from) => Ok(over(given, Work::Records { dim, from })),
         Err(word) => wrong_word(alloc, "FROM", word, NUMBERS),
     }
 }
 
-fn init_task<'a>(given: &ArgMatches<'a>) -> Task<'a>
-    ensures { Ok (task_in result) ≡ asks_of init_command (given_in given.now) }
+fn init_request<'a>(given: &ArgMatches<'a>) -> Request<'a>
+    ensures { asked_in result ≡ Some (asks_of init_command (given_in given.now)) }
 {
-    Task::Init {
-        file: word_for(given, "FILE"),
-        policy: word_for(given, "POLICY"),
-    }
+    over(
+        given,
+        Work::Init {
+            policy: word_for(given, "POLICY"),
+        },
+    )
 }
 
 /// The load of a batch of a kind.
@@ -271,42 +260,50 @@ fn load_request<'a>(alloc: Global, given: &ArgMatches<'a>) -> Result<Request<'a>
 {
     let kind = word_for(given, "KIND");
     match Kind::from_word(kind) {
-        Some(kind) => Ok(Request::Task(Task::Load {
-            file: word_for(given, "FILE"),
-            kind,
-            id: word_for(given, "ID"),
-            path: word_for(given, "CSV"),
-        })),
+        Some(kind) => Ok(over(
+            given,
+            Work::Load {
+                kind,
+                id: word_for(given, "ID"),
+                path: word_for(given, "CSV"),
+            },
+        )),
         None => wrong_word(alloc, "KIND", kind, KINDS),
     }
 }
 
-fn migrate_task<'a>(given: &ArgMatches<'a>) -> Task<'a>
-    ensures { Ok (task_in result) ≡ asks_of migrate_command (given_in given.now) }
+fn migrate_request<'a>(given: &ArgMatches<'a>) -> Request<'a>
+    ensures { asked_in result ≡ Some (asks_of migrate_command (given_in given.now)) }
 {
-    Task::Migrate {
-        file: word_for(given, "FILE"),
-        id: word_for(given, "ID"),
-        policy: word_for(given, "POLICY"),
-    }
+    over(
+        given,
+        Work::Migrate {
+            id: word_for(given, "ID"),
+            policy: word_for(given, "POLICY"),
+        },
+    )
 }
 
-fn upgrade_task<'a>(given: &ArgMatches<'a>) -> Task<'a>
-    ensures { Ok (task_in result) ≡ asks_of upgrade_command (given_in given.now) }
+fn upgrade_request<'a>(given: &ArgMatches<'a>) -> Request<'a>
+    ensures { asked_in result ≡ Some (asks_of upgrade_command (given_in given.now)) }
 {
-    Task::Upgrade {
-        file: word_for(given, "FILE"),
-        id: word_for(given, "ID"),
-    }
+    over(
+        given,
+        Work::Upgrade {
+            id: word_for(given, "ID"),
+        },
+    )
 }
 
-fn deliver_task<'a>(given: &ArgMatches<'a>) -> Task<'a>
-    ensures { Ok (task_in result) ≡ asks_of deliver_command (given_in given.now) }
+fn deliver_request<'a>(given: &ArgMatches<'a>) -> Request<'a>
+    ensures { asked_in result ≡ Some (asks_of deliver_command (given_in given.now)) }
 {
-    Task::Deliver {
-        file: word_for(given, "FILE"),
-        manifest: word_for(given, "MANIFEST"),
-    }
+    over(
+        given,
+        Work::Deliver {
+            manifest: word_for(given, "MANIFEST"),
+        },
+    )
 }
 
 /// The report in a mode.
@@ -315,35 +312,39 @@ fn report_request<'a>(alloc: Global, given: &ArgMatches<'a>) -> Result<Request<'
 {
     let mode = word_for(given, "MODE");
     match Mode::from_word(mode) {
-        Some(mode) => Ok(Request::Task(Task::Report {
-            file: word_for(given, "FILE"),
-            asked: AskedReport {
+        Some(mode) => Ok(over(
+            given,
+            Work::Report(AskedReport {
                 attribute: word_for(given, "ATTRIBUTE"),
                 mode,
                 from: word_for(given, "FROM"),
                 to: word_for(given, "TO"),
-            },
-        })),
+            }),
+        )),
         None => wrong_word(alloc, "MODE", mode, MODES),
     }
 }
 
-fn reports_task<'a>(given: &ArgMatches<'a>) -> Task<'a>
-    ensures { Ok (task_in result) ≡ asks_of reports_command (given_in given.now) }
+fn reports_request<'a>(given: &ArgMatches<'a>) -> Request<'a>
+    ensures { asked_in result ≡ Some (asks_of reports_command (given_in given.now)) }
 {
-    Task::Reports {
-        file: word_for(given, "FILE"),
-        list: word_for(given, "LIST"),
-    }
+    over(
+        given,
+        Work::Reports {
+            list: word_for(given, "LIST"),
+        },
+    )
 }
 
-fn queries_task<'a>(given: &ArgMatches<'a>) -> Task<'a>
-    ensures { Ok (task_in result) ≡ asks_of queries_command (given_in given.now) }
+fn queries_request<'a>(given: &ArgMatches<'a>) -> Request<'a>
+    ensures { asked_in result ≡ Some (asks_of queries_command (given_in given.now)) }
 {
-    Task::Queries {
-        file: word_for(given, "FILE"),
-        list: word_for(given, "LIST"),
-    }
+    over(
+        given,
+        Work::Queries {
+            list: word_for(given, "LIST"),
+        },
+    )
 }
 
 /// The table of a name.
@@ -359,35 +360,8 @@ fn dump_request<'a>(alloc: Global, given: &ArgMatches<'a>) -> Result<Request<'a>
 {
     let table = word_for(given, "TABLE");
     match table_of_name(table) {
-        Some(table) => Ok(Request::Task(Task::Dump {
-            file: word_for(given, "FILE"),
-            table,
-        })),
+        Some(table) => Ok(over(given, Work::Dump(table))),
         None => wrong_word(alloc, "TABLE", table, TABLES),
-    }
-}
-
-fn views_task<'a>(given: &ArgMatches<'a>) -> Task<'a>
-    ensures { Ok (task_in result) ≡ asks_of views_command (given_in given.now) }
-{
-    Task::Views {
-        file: word_for(given, "FILE"),
-    }
-}
-
-fn status_task<'a>(given: &ArgMatches<'a>) -> Task<'a>
-    ensures { Ok (task_in result) ≡ asks_of status_command (given_in given.now) }
-{
-    Task::Status {
-        file: word_for(given, "FILE"),
-    }
-}
-
-fn session_task<'a>(given: &ArgMatches<'a>) -> Task<'a>
-    ensures { Ok (task_in result) ≡ asks_of session_command (given_in given.now) }
-{
-    Task::Session {
-        file: word_for(given, "FILE"),
     }
 }
 
@@ -397,21 +371,15 @@ fn plan_request<'a>(alloc: Global, given: &ArgMatches<'a>) -> Result<Request<'a>
 {
     let kind = word_for(given, "KIND");
     match CommandKind::from_word(kind) {
-        Some(kind) => Ok(Request::Task(Task::Plan {
-            file: word_for(given, "FILE"),
-            kind,
-            id: word_for(given, "ID"),
-            path: word_for(given, "INPUT"),
-        })),
+        Some(kind) => Ok(over(
+            given,
+            Work::Plan {
+                kind,
+                id: word_for(given, "ID"),
+                path: word_for(given, "INPUT"),
+            },
+        )),
         None => wrong_word(alloc, "KIND", kind, COMMAND_KINDS),
-    }
-}
-
-fn check_task<'a>(given: &ArgMatches<'a>) -> Task<'a>
-    ensures { Ok (task_in result) ≡ asks_of check_command (given_in given.now) }
-{
-    Task::Check {
-        file: word_for(given, "FILE"),
     }
 }
 
@@ -429,20 +397,20 @@ fn asked_to<'a>(
         "explain" => explain_request(alloc, given),
         "records" => records_request(alloc, given),
         "query" => query_request(alloc, given),
-        "init" => Ok(Request::Task(init_task(given))),
+        "init" => Ok(init_request(given)),
         "load" => load_request(alloc, given),
-        "migrate" => Ok(Request::Task(migrate_task(given))),
-        "upgrade" => Ok(Request::Task(upgrade_task(given))),
-        "deliver" => Ok(Request::Task(deliver_task(given))),
+        "migrate" => Ok(migrate_request(given)),
+        "upgrade" => Ok(upgrade_request(given)),
+        "deliver" => Ok(deliver_request(given)),
         "report" => report_request(alloc, given),
-        "reports" => Ok(Request::Task(reports_task(given))),
-        "queries" => Ok(Request::Task(queries_task(given))),
+        "reports" => Ok(reports_request(given)),
+        "queries" => Ok(queries_request(given)),
         "dump" => dump_request(alloc, given),
-        "views" => Ok(Request::Task(views_task(given))),
-        "status" => Ok(Request::Task(status_task(given))),
-        "session" => Ok(Request::Task(session_task(given))),
+        "views" => Ok(over(given, Work::Views)),
+        "status" => Ok(over(given, Work::Status)),
+        "session" => Ok(over(given, Work::Session)),
         "plan" => plan_request(alloc, given),
-        "check" => Ok(Request::Task(check_task(given))),
+        "check" => Ok(over(given, Work::Check)),
         _ => mistake(alloc, NO_COMMAND_LINE),
     }
 }

@@ -11,7 +11,7 @@ mod query_list;
 mod wrong_word;
 
 pub use app::program_app;
-pub use command::{AskedReport, Request, Task, parse};
+pub use command::{AskedReport, Request, Task, Work, parse};
 pub use line::{LINE_LIMIT, Line, read_line};
 pub use query::AskedQuery;
 pub use query_list::QueryList;

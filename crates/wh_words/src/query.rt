@@ -6,7 +6,7 @@ ghost use Rattle.wh_words.specs.Given.{all_words_in, as_given, given_in, words_i
 ghost use Rattle.wh_words.specs.Request.{asked_in};
 ghost use Rattle.wh_words.specs.Task.{OfFile, asked, asks_of, each_given, query_by, query_command, query_of};
 
-use crate::command::{Request, Task, mistake, wrong_word};
+use crate::command::{Request, Work, mistake, over, wrong_word};
 use crate::given::{has_flag, word_for, words_for};
 use crate::wrong_word::{COLUMNS, CONDITIONS, TOO_MANY_COLUMNS, TOO_MANY_CONDITIONS};
 use clap::ArgMatches;
@@ -115,10 +115,7 @@ fn query_by<'a>(
                 to: word_for(given, "TO"),
                 as_table: has_flag(given, "TABLE"),
             };
-            Ok(Request::Task(Task::Query {
-                file: word_for(given, "FILE"),
-                asked,
-            }))
+            Ok(over(given, Work::Query(asked)))
         }
         Err(word) => wrong_word(alloc, "--where", word, CONDITIONS),
     }

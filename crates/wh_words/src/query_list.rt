@@ -9,7 +9,7 @@ ghost use Rattle.wh_words.specs.Asked.{asked_by};
 ghost use Rattle.wh_words.specs.Request.{asked_in};
 ghost use Rattle.wh_words.specs.Task.{query_words};
 
-use crate::command::{Request, Task, parse};
+use crate::command::{Request, Task, Work, parse};
 use crate::line::{Line, read_line};
 use crate::query::AskedQuery;
 use std::alloc::{AllocError, Global};
@@ -113,7 +113,12 @@ fn said_of(request: Request<'_>) -> Said<'_>
     ensures { said_in result ≡ says_of (asked_in request.entry) }
 {
     match request {
-        Request::Task(Task::Query { asked, .. }) => Said::Query(asked),
+        Request::Task(
+            Task::Over {
+                work: Work::Query(asked),
+                ..
+            },
+        ) => Said::Query(asked),
         _ => Said::NoQuery,
     }
 }
