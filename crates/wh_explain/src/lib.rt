@@ -15,7 +15,6 @@ mod line_texts;
 mod members;
 mod number;
 mod policy;
-mod policy_keys;
 mod policy_place;
 mod records;
 mod refused;

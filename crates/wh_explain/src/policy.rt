@@ -77,7 +77,7 @@ pub(crate) fn push_bad_policy(
         push_number(text, POLICY_LIMIT as u64)?;
         return push_text(text, " bytes, which is the most that is allowed\n");
     }
-    push_policy_place(text, alloc, fault, bytes)?;
+    push_policy_place(text, alloc, bytes)?;
     push_text(text, rule(fault))?;
     push_text(text, "\n")?;
     match fault {

@@ -9,14 +9,20 @@ ghost use Rattle.wh_policy.specs.Types.{is_mini, is_outrigger};
 ghost use Rattle.wh_policy.specs.Attributes.{is_name_byte, is_word, is_name, name_of, kind_of, takes_profile, is_mixed, is_named, attribute_of, attributes_of};
 
 use crate::attribute::{Attribute, AttributeType, Attributes, Dim};
-use crate::document::{has_only, required, tables_of};
+use crate::document::{has_only, required, tables_of, unknown_in};
 use crate::fault::PolicyFault;
+use crate::place::{Place, PlacedFault};
 use std::alloc::Global;
 use toml::{Table, Value as TomlValue};
 use wh_day::{ParseError, Value};
 
 /// The most bytes of an attribute's name.
 pub const NAME_LIMIT: usize = 24;
+
+/// The most attributes of a dimension.
+pub const MOST_ATTRIBUTES: usize = 6;
+
+const ATTRIBUTE_KEYS: [&str; 2] = ["name", "type"];
 
 fn is_name_byte(byte: u8) -> bool
     ensures { result ≡ is_name_byte byte }
@@ -48,25 +54,32 @@ fn is_name(name: &str) -> bool
 }
 
 #[tactic(auto, unfolding(crate::specs::Attributes::name_of))]
-fn name_of(alloc: Global, value: &TomlValue) -> Result<Value, ParseError<PolicyFault>>
+fn name_of<'a>(
+    alloc: Global,
+    place: Place<'a>,
+    value: &'a TomlValue,
+) -> Result<Value, ParseError<PlacedFault<'a>>>
     ensures { Gives (λ name. name) result (name_of (view value.now)) }
 {
     match value.as_str() {
         Some(name) if is_name(name) => Ok(Value::new(alloc, name)?),
-        _ => Err(ParseError::Fault(PolicyFault::BadName)),
+        _ => Err(place.at("name").fault(PolicyFault::BadName)),
     }
 }
 
 #[tactic(auto, unfolding(crate::specs::Attributes::kind_of))]
-fn kind_of(value: &TomlValue) -> Result<AttributeType, ParseError<PolicyFault>>
+fn kind_of<'a>(
+    place: Place<'a>,
+    value: &'a TomlValue,
+) -> Result<AttributeType, ParseError<PlacedFault<'a>>>
     ensures { Gives (λ kind. kind) result (kind_of (view value.now)) }
 {
     let Some(number) = value.as_integer() else {
-        return Err(ParseError::Fault(PolicyFault::BadType));
+        return Err(place.at("type").fault(PolicyFault::BadType));
     };
     match AttributeType::from_number(number) {
         Some(kind) => Ok(kind),
-        None => Err(ParseError::Fault(PolicyFault::BadType)),
+        None => Err(place.at("type").fault(PolicyFault::BadType)),
     }
 }
 
@@ -85,6 +98,14 @@ pub(crate) fn is_mixed(attributes: &[Attribute]) -> bool
     ensures { result ≡ is_mixed attributes.now }
 {
     has_mini(attributes) && has_outrigger(attributes)
+}
+
+/// The place of the first attribute of customer behind which types 4 and 5 stand side by side.
+pub(crate) fn place_of_mixed(attributes: &[Attribute]) -> Place<'static> {
+    let mini = attributes.iter().position(|it| it.kind.is_mini());
+    let outrigger = attributes.iter().position(|it| it.kind.is_outrigger());
+    let later = mini.unwrap_or(0).max(outrigger.unwrap_or(0));
+    Place::of_table(Dim::Customer.word(), later).at("type")
 }
 
 fn has_mini(attributes: &[Attribute]) -> bool
@@ -110,35 +131,36 @@ fn has_name(attributes: &[Attribute], name: &str) -> bool
 }
 
 #[tactic(auto, unfolding(crate::specs::Attributes::attribute_of))]
-fn attribute_of(
+fn attribute_of<'a>(
     alloc: Global,
     dim: Dim,
     earlier: &[Attribute],
-    table: &Table,
-) -> Result<Attribute, ParseError<PolicyFault>>
+    table: &'a Table,
+) -> Result<Attribute, ParseError<PlacedFault<'a>>>
     ensures { Gives (λ attribute. attribute) result (attribute_of dim earlier.now (table_view table.now)) }
 {
-    if !has_only(table, &["name", "type"]) {
-        return Err(ParseError::Fault(PolicyFault::UnknownKey));
+    let place = Place::of_table(dim.word(), earlier.len());
+    if !has_only(table, &ATTRIBUTE_KEYS) {
+        return Err(unknown_in(place, table, &ATTRIBUTE_KEYS).fault(PolicyFault::UnknownKey));
     }
-    let name = required(table, "name")?;
-    let kind = required(table, "type")?;
-    let name = name_of(alloc, name)?;
-    let kind = kind_of(kind)?;
+    let name = required(place, table, "name")?;
+    let kind = required(place, table, "type")?;
+    let name = name_of(alloc, place, name)?;
+    let kind = kind_of(place, kind)?;
     if kind.is_profile() && !takes_profile(dim) {
-        return Err(ParseError::Fault(PolicyFault::ProfileOutside));
+        return Err(place.at("type").fault(PolicyFault::ProfileOutside));
     }
     if has_name(earlier, name.as_str()) {
-        return Err(ParseError::Fault(PolicyFault::NamedTwice));
+        return Err(place.at("name").fault(PolicyFault::NamedTwice));
     }
     Ok(Attribute { name, kind })
 }
 
-fn attribute_list(
+fn attribute_list<'a>(
     alloc: Global,
     dim: Dim,
-    tables: &[&Table],
-) -> Result<Attributes, ParseError<PolicyFault>>
+    tables: &[&'a Table],
+) -> Result<Attributes, ParseError<PlacedFault<'a>>>
     ensures { Gives (λ attributes. attributes) result (each_after (attribute_of dim) [] (map (λ t. table_view t.now) tables.now)) }
 {
     let mut attributes = Attributes::new(alloc);
@@ -151,19 +173,19 @@ fn attribute_list(
 
 /// The attributes of a dimension, in the order of their slots.
 #[tactic(auto, unfolding(crate::specs::Attributes::attributes_of))]
-pub(crate) fn attributes_of(
+pub(crate) fn attributes_of<'a>(
     alloc: Global,
     dim: Dim,
-    value: &TomlValue,
-) -> Result<Attributes, ParseError<PolicyFault>>
+    value: &'a TomlValue,
+) -> Result<Attributes, ParseError<PlacedFault<'a>>>
     ensures { Gives (λ attributes. attributes) result (attributes_of dim (view value.now)) }
 {
-    let tables = tables_of(alloc, PolicyFault::Missing, value)?;
+    let tables = tables_of(alloc, PolicyFault::Missing, dim.word(), value)?;
     if tables.is_empty() {
-        return Err(ParseError::Fault(PolicyFault::Missing));
+        return Err(Place::of_array(dim.word()).fault(PolicyFault::Missing));
     }
-    if tables.len() > 6 {
-        return Err(ParseError::Fault(PolicyFault::TooMany));
+    if tables.len() > MOST_ATTRIBUTES {
+        return Err(Place::of_array(dim.word()).fault(PolicyFault::TooMany));
     }
     attribute_list(alloc, dim, &tables)
 }

@@ -10,6 +10,7 @@ ghost use Rattle.toml.specs.View.{view, items_view, table_view};
 ghost use Rattle.wh_policy.specs.Document.{document_of, has_only, required, tables_in, tables_of};
 
 use crate::fault::PolicyFault;
+use crate::place::{Place, PlacedFault};
 use std::alloc::Global;
 use toml::{Table, Value};
 use wh_day::ParseError;
@@ -50,15 +51,26 @@ pub(crate) fn optional<'a>(table: &'a Table, key: &str) -> Option<&'a Value>
 /// The value at a key that has to be there.
 #[tactic(auto, unfolding(crate::specs::Document::required))]
 pub(crate) fn required<'a>(
+    place: Place<'a>,
     table: &'a Table,
-    key: &str,
-) -> Result<&'a Value, ParseError<PolicyFault>>
+    key: &'static str,
+) -> Result<&'a Value, ParseError<PlacedFault<'a>>>
     ensures { Gives (λ value. view value.now) result (required key.now (table_view table.now)) }
 {
     match optional(table, key) {
         Some(value) => Ok(value),
-        None => Err(ParseError::Fault(PolicyFault::Missing)),
+        None => Err(place.at(key).fault(PolicyFault::Missing)),
     }
+}
+
+/// The place of the first key that isn't one of the known ones.
+pub(crate) fn unknown_in<'a>(place: Place<'a>, table: &'a Table, known: &[&str]) -> Place<'a> {
+    for key in table.keys() {
+        if !is_known(known, key.as_str()) {
+            return place.at(key.as_str());
+        }
+    }
+    place
 }
 
 /// Whether each key of the table is one of the known ones.
@@ -80,33 +92,35 @@ fn is_known(known: &[&str], key: &str) -> bool
     known.iter().any(|name| key == *name)
 }
 
-/// The tables of an array, each element one; else the fault.
+/// The tables of an array, which the key of the file with its name has, each element one; else the fault.
 #[tactic(auto, unfolding(crate::specs::Document::tables_of))]
-pub(crate) fn tables_of(
+pub(crate) fn tables_of<'a>(
     alloc: Global,
     fault: PolicyFault,
-    value: &Value,
-) -> Result<Vec<&Table>, ParseError<PolicyFault>>
+    array: &'static str,
+    value: &'a Value,
+) -> Result<Vec<&'a Table>, ParseError<PlacedFault<'a>>>
     ensures { Gives (λ tables. map (λ t. table_view t.now) tables.items) result (tables_of fault (view value.now)) }
 {
     let Some(items) = value.as_array() else {
-        return Err(ParseError::Fault(fault));
+        return Err(Place::of_file().at(array).fault(fault));
     };
-    tables_in(alloc, fault, items)
+    tables_in(alloc, fault, array, items)
 }
 
-fn tables_in(
+fn tables_in<'a>(
     alloc: Global,
     fault: PolicyFault,
-    items: &[Value],
-) -> Result<Vec<&Table>, ParseError<PolicyFault>>
+    array: &'static str,
+    items: &'a [Value],
+) -> Result<Vec<&'a Table>, ParseError<PlacedFault<'a>>>
     ensures { Gives (λ tables. map (λ t. table_view t.now) tables.items) result (tables_in fault (items_view items.now)) }
 {
     let mut tables = Vec::new(alloc);
     for item in items {
         match item.as_table() {
             Some(table) => tables.push(table)?,
-            None => return Err(ParseError::Fault(fault)),
+            None => return Err(Place::of_table(array, tables.len()).fault(fault)),
         }
     }
     Ok(tables)

@@ -10,14 +10,17 @@ mod format;
 mod holidays;
 pub mod laws;
 mod names;
+mod place;
 mod policy;
 mod record;
 mod years;
 
 pub use attribute::{Attribute, AttributeType, Attributes, Dim};
-pub use dimension::NAME_LIMIT;
+pub use dimension::{MOST_ATTRIBUTES, NAME_LIMIT};
 pub use document::POLICY_LIMIT;
 pub use fault::PolicyFault;
 pub use format::Format;
+pub use place::{Place, PlacedFault};
 pub use policy::{Policy, Years};
 pub use record::{DimensionRecord, SaleRecord, VoidRecord};
+pub use years::{FIRST_YEAR, LAST_YEAR, MOST_YEARS};

@@ -9,10 +9,11 @@ ghost use Rattle.wh_policy.specs.Years.{is_within, first_key, end_key};
 
 use crate::attribute::{Attribute, AttributeType, Attributes, Dim};
 use crate::dimension;
-use crate::document::{document_of, has_only, optional, required};
+use crate::document::{document_of, has_only, optional, required, unknown_in};
 use crate::fault::PolicyFault;
 use crate::holidays::holidays_of;
 use crate::names::{are_kept, slot_from};
+use crate::place::{Place, PlacedFault};
 use crate::years::years_of;
 use std::alloc::{AllocError, Global};
 use std::ops::Range;
@@ -91,26 +92,36 @@ impl Policy {
         ensures { Gives (λ policy. policy) result (read_policy bytes.now) }
     {
         let table = document_of(alloc, bytes)?;
-        Policy::of_table(alloc, &table)
+        match Policy::of_table(alloc, &table) {
+            Ok(policy) => Ok(policy),
+            Err(ParseError::Fault(fault)) => Err(ParseError::Fault(fault.kind())),
+            Err(ParseError::Memory) => Err(ParseError::Memory),
+        }
     }
 
+    /// The policy that the table of a file writes. The fault is the first one, as [`Policy::read`] answers it, with its place.
     #[tactic(auto, unfolding(crate::specs::Policy::policy_of_table))]
-    fn of_table(alloc: Global, table: &Table) -> Result<Policy, ParseError<PolicyFault>>
+    pub fn of_table<'a>(
+        alloc: Global,
+        table: &'a Table,
+    ) -> Result<Policy, ParseError<PlacedFault<'a>>>
         ensures { Gives (λ policy. policy) result (policy_of_table (table_view table.now)) }
     {
+        let place = Place::of_file();
         if !has_only(table, &TOP_KEYS) {
-            return Err(ParseError::Fault(PolicyFault::UnknownKey));
+            return Err(unknown_in(place, table, &TOP_KEYS).fault(PolicyFault::UnknownKey));
         }
-        let first_year = required(table, "first_year")?;
-        let last_year = required(table, "last_year")?;
-        let product = required(table, "product")?;
-        let store = required(table, "store")?;
-        let customer = required(table, "customer")?;
+        let first_year = required(place, table, "first_year")?;
+        let last_year = required(place, table, "last_year")?;
+        let product = required(place, table, "product")?;
+        let store = required(place, table, "store")?;
+        let customer = required(place, table, "customer")?;
         let product = dimension::attributes_of(alloc, Dim::Product, product)?;
         let store = dimension::attributes_of(alloc, Dim::Store, store)?;
         let customer = dimension::attributes_of(alloc, Dim::Customer, customer)?;
         if dimension::is_mixed(customer.as_slice()) {
-            return Err(ParseError::Fault(PolicyFault::ProfileMixed));
+            let place = dimension::place_of_mixed(customer.as_slice());
+            return Err(place.fault(PolicyFault::ProfileMixed));
         }
         let years = years_of(first_year, last_year)?;
         let holidays = holidays_of(alloc, years, optional(table, "holiday"))?;

@@ -8,7 +8,7 @@ use Rattle.wh_policy.proofs.document.tables_in.Goals as goal
 pub returns-in-None : goal.returns-in-None
 returns-in-None c =
     let here = rw (← c.item-item.is) at (items_view-drop c.args.items.now c.loop-item.item-index c.item-item.result c.loop-item-test.true) in
-    sym (rw here at c.loop-item.invariant) ∙ tables-fault _ c.args.fault (view c.item-item.result) _ (sym c.in-None.ensures)
+    rw c.fault.ensures (sym (rw here at c.loop-item.invariant) ∙ tables-fault _ c.args.fault (view c.item-item.result) _ (sym c.in-None.ensures))
 
 pub loop-item-preserved : goal.loop-item-preserved
 loop-item-preserved c =
