@@ -12,6 +12,7 @@ pub mod laws;
 mod names;
 mod policy;
 mod record;
+mod type_rule;
 mod years;
 
 pub use attribute::{Attribute, AttributeType, Attributes, Dim};
@@ -21,3 +22,4 @@ pub use fault::PolicyFault;
 pub use format::Format;
 pub use policy::{Policy, Years};
 pub use record::{DimensionRecord, SaleRecord, VoidRecord};
+pub use type_rule::{MainColumn, ProfilePart, SecondColumn, TypeRule, ValuePlace};
