@@ -5,7 +5,8 @@ use Rattle.std.proofs.lemmas.Bool.{cases_Bool, eqb-true, true≢false}
 use Rattle.std.proofs.lemmas.Option.{same_Some, none-some}
 use Rattle.wh_policy.specs.declared.attribute.AttributeType.{AttributeType}
 use Rattle.wh_policy.specs.declared.attribute.AttributeType.TheVariants.{RetainOriginal, Overwrite, NewRow, NewAttribute, MiniDimension, MiniDimensionOutrigger, NewRowAndOverwrite, DualKeys}
-use Rattle.wh_policy.specs.Types.{every_type, attribute_type_number, attribute_type_of_number, is_profile, is_mini, is_outrigger}
+use Rattle.wh_policy.specs.declared.type_rule.MainColumn.TheVariants as main
+use Rattle.wh_policy.specs.Types.{rule, every_type, attribute_type_number, attribute_type_of_number, is_profile, is_mini, is_outrigger}
 
 -- each type is found by its number
 pub attribute_type_of_number-again : (kind : AttributeType) → attribute_type_of_number (pos (attribute_type_number kind)) ≡ Some kind
@@ -61,6 +62,12 @@ pub other_numbers : (kind : AttributeType) → is_profile kind ≡ false → (at
 other_numbers MiniDimension h = absurd (true≢false h)
 other_numbers MiniDimensionOutrigger h = absurd (true≢false h)
 other_numbers _ h = (λ e. omega (arith, e), λ e. omega (arith, e))
+
+-- an attribute whose rows show the original value is none of the profile
+pub original_outside : (kind : AttributeType) → (rule kind).main ≡ main.Original → is_profile kind ≡ false
+original_outside MiniDimension h = absurd cc
+original_outside MiniDimensionOutrigger h = absurd cc
+original_outside _ h = refl
 
 pub mini_number : (kind : AttributeType) → is_mini kind ≡ true → attribute_type_number kind ≡ 4
 mini_number MiniDimension h = refl

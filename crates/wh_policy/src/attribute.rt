@@ -1,9 +1,10 @@
 //! Dimensions, their attributes and the types of slowly changing attributes.
 
 ghost use Rattle.std.specs.Prelude.{◌≡◌, ◌++◌, ◌∷◌, [], map, IfOk, OnOk, OnErr};
-ghost use Rattle.wh_policy.specs.Types.{is_tracked, is_profile, is_mini, is_outrigger, attribute_type_number, attribute_type_of_number, kinds_of};
+ghost use Rattle.wh_policy.specs.Types.{rule, is_tracked, is_profile, is_mini, is_outrigger, attribute_type_number, attribute_type_of_number, kinds_of};
 ghost use Rattle.wh_policy.specs.Words.{dim_word, dim_of_word};
 
+use crate::type_rule::{MainColumn, ProfilePart, SecondColumn, TypeRule, ValuePlace};
 use std::alloc::{AllocError, Global};
 use std::marker::Model;
 use wh_day::Value;
@@ -69,20 +70,91 @@ pub enum AttributeType {
 }
 
 impl AttributeType {
+    /// What it says of its attributes.
+    pub fn rule(self) -> TypeRule
+        ensures { result ≡ rule self }
+    {
+        match self {
+            AttributeType::RetainOriginal => TypeRule {
+                number: 0,
+                main: MainColumn::Original,
+                second: SecondColumn::Nothing,
+                profile: ProfilePart::NoPart,
+                was: Some(ValuePlace::Main),
+                is_now: Some(ValuePlace::Main),
+                prior: None,
+            },
+            AttributeType::Overwrite => TypeRule {
+                number: 1,
+                main: MainColumn::Latest,
+                second: SecondColumn::Nothing,
+                profile: ProfilePart::NoPart,
+                was: Some(ValuePlace::Main),
+                is_now: Some(ValuePlace::Main),
+                prior: None,
+            },
+            AttributeType::NewRow => TypeRule {
+                number: 2,
+                main: MainColumn::FirstDay,
+                second: SecondColumn::Nothing,
+                profile: ProfilePart::NoPart,
+                was: Some(ValuePlace::Main),
+                is_now: None,
+                prior: None,
+            },
+            AttributeType::NewAttribute => TypeRule {
+                number: 3,
+                main: MainColumn::Latest,
+                second: SecondColumn::Prior,
+                profile: ProfilePart::NoPart,
+                was: None,
+                is_now: Some(ValuePlace::Main),
+                prior: Some(ValuePlace::Second),
+            },
+            AttributeType::MiniDimension => TypeRule {
+                number: 4,
+                main: MainColumn::Nothing,
+                second: SecondColumn::Nothing,
+                profile: ProfilePart::Part,
+                was: Some(ValuePlace::SaleProfile),
+                is_now: None,
+                prior: None,
+            },
+            AttributeType::MiniDimensionOutrigger => TypeRule {
+                number: 5,
+                main: MainColumn::Nothing,
+                second: SecondColumn::Nothing,
+                profile: ProfilePart::PartAndNewest,
+                was: Some(ValuePlace::SaleProfile),
+                is_now: Some(ValuePlace::NewestProfile),
+                prior: None,
+            },
+            AttributeType::NewRowAndOverwrite => TypeRule {
+                number: 6,
+                main: MainColumn::FirstDay,
+                second: SecondColumn::Latest,
+                profile: ProfilePart::NoPart,
+                was: Some(ValuePlace::Main),
+                is_now: Some(ValuePlace::Second),
+                prior: None,
+            },
+            AttributeType::DualKeys => TypeRule {
+                number: 7,
+                main: MainColumn::FirstDay,
+                second: SecondColumn::Nothing,
+                profile: ProfilePart::NoPart,
+                was: Some(ValuePlace::Main),
+                is_now: Some(ValuePlace::CurrentMain),
+                prior: None,
+            },
+        }
+    }
+
     /// Its number, 0 to 7.
     pub fn number(self) -> u8
         ensures { result ≡ attribute_type_number self }
     {
-        match self {
-            AttributeType::RetainOriginal => 0,
-            AttributeType::Overwrite => 1,
-            AttributeType::NewRow => 2,
-            AttributeType::NewAttribute => 3,
-            AttributeType::MiniDimension => 4,
-            AttributeType::MiniDimensionOutrigger => 5,
-            AttributeType::NewRowAndOverwrite => 6,
-            AttributeType::DualKeys => 7,
-        }
+        self.rule().number
     }
 
     /// The type of a number, 0 to 7; `None` for any other number.
@@ -102,43 +174,32 @@ impl AttributeType {
         }
     }
 
-    /// Whether a change of the attribute begins a row: types 2, 6 and 7.
+    /// Whether a change of the attribute begins a row: its main column shows the value on the row's first day.
     pub fn is_tracked(self) -> bool
         ensures { result ≡ is_tracked self }
     {
-        match self {
-            AttributeType::NewRow | AttributeType::NewRowAndOverwrite | AttributeType::DualKeys => {
-                true
-            }
-            _ => false,
-        }
+        matches!(self.rule().main, MainColumn::FirstDay)
     }
 
-    /// Whether the attribute is a part of the profile: types 4 and 5.
+    /// Whether the attribute is a part of the profile.
     pub fn is_profile(self) -> bool
         ensures { result ≡ is_profile self }
     {
-        match self {
-            AttributeType::MiniDimension | AttributeType::MiniDimensionOutrigger => true,
-            _ => false,
-        }
+        !matches!(self.rule().profile, ProfilePart::NoPart)
     }
 
-    /// Whether the attribute is of type 4.
+    /// Whether it is one whose number the rows of the dimension don't show.
     pub fn is_mini(self) -> bool
         ensures { result ≡ is_mini self }
     {
-        matches!(self, AttributeType::MiniDimension)
+        matches!(self.rule().profile, ProfilePart::Part)
     }
 
-    /// Whether the rows of the dimension name the newest profile for it: type 5.
+    /// Whether the rows of the dimension name the newest profile for it.
     pub fn is_outrigger(self) -> bool
         ensures { result ≡ is_outrigger self }
     {
-        match self {
-            AttributeType::MiniDimensionOutrigger => true,
-            _ => false,
-        }
+        matches!(self.rule().profile, ProfilePart::PartAndNewest)
     }
 }
 

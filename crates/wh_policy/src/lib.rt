@@ -13,6 +13,7 @@ mod names;
 mod place;
 mod policy;
 mod record;
+mod type_rule;
 mod years;
 
 pub use attribute::{Attribute, AttributeType, Attributes, Dim};
@@ -23,4 +24,5 @@ pub use format::Format;
 pub use place::{Place, PlacedFault};
 pub use policy::{Policy, Years};
 pub use record::{DimensionRecord, SaleRecord, VoidRecord};
+pub use type_rule::{MainColumn, ProfilePart, SecondColumn, TypeRule, ValuePlace};
 pub use years::{FIRST_YEAR, LAST_YEAR, MOST_YEARS};
