@@ -9,7 +9,7 @@ use Rattle.wh_policy.specs.declared.policy.Policy.{Policy}
 use Rattle.wh_batch.specs.Batch.{is_same_key}
 use Rattle.wh_batch.specs.declared.kind.CommandKind.{CommandKind}
 use Rattle.wh_batch.specs.declared.kind.CommandKind.TheVariants.{Batch, Migration, Upgrade}
-use Rattle.wh_batch.specs.declared.kind.Kind.TheVariants.{Dimension, Sales, Voids}
+use Rattle.wh_batch.specs.declared.kind.BatchKind.TheVariants.{Dimension, Sales, Voids}
 use Rattle.wh_batch.specs.Layouts.{void_key, voids_layout, void_records}
 use Rattle.wh_batch.proofs.GoodLemmas.{bind_ok, reads_batches}
 use Rattle.wh_history.specs.Accepted.{Governs, Describes, Sells, Withdraws}

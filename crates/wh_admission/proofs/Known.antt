@@ -9,7 +9,7 @@ use Rattle.wh_history.specs.Tables.{Limits}
 use Rattle.wh_history.proofs.Numbers.{place-append_front}
 use Rattle.wh_history.proofs.Basics.{first_or}
 use Rattle.wh_rows.specs.Types.{is_key}
-use Rattle.wh_batch.specs.Kind.{command_kind_word}
+use Rattle.wh_batch.specs.BatchKind.{command_kind_word}
 use Rattle.wh_admission.specs.Admission.{kept_bytes, content_of, current_policy, accepted_as, receipt_of, receipt_told, already, number_for, answer_with, when_read, answer, with_content, after_answer, accepted_after, accepted_after_all, ActsOnceLater}
 use Rattle.wh_admission.specs.declared.command.Command.{Command}
 use Rattle.wh_admission.specs.declared.command.Receipt.{Receipt}

@@ -18,7 +18,7 @@ use Rattle.wh_policy.specs.declared.record.SaleRecord.{SaleRecord}
 use Rattle.wh_policy.specs.declared.record.VoidRecord.{VoidRecord}
 use Rattle.wh_batch.specs.Layouts.{dimension_records, sale_records, void_records}
 use Rattle.wh_batch.specs.declared.fault.BatchFault.{BatchFault}
-use Rattle.wh_batch.specs.declared.kind.Kind.TheVariants.{Dimension, Sales, Voids}
+use Rattle.wh_batch.specs.declared.kind.BatchKind.TheVariants.{Dimension, Sales, Voids}
 use Rattle.wh_policy.specs.declared.format.Format.{Format}
 use Rattle.wh_policy.specs.declared.format.Format.TheVariants.{One}
 use Rattle.wh_batch.proofs.GoodLemmas.{bind_ok, cond_ok}
@@ -28,7 +28,7 @@ use Rattle.wh_history.proofs.Joins.{all_append}
 use Rattle.wh_history.proofs.Untouched.{described-last}
 use Rattle.wh_rows.specs.Questions.{gives_policy}
 use Rattle.wh_rows.specs.Types.{is_key, is_kind}
-use Rattle.wh_batch.specs.Kind.{command_kind_word}
+use Rattle.wh_batch.specs.BatchKind.{command_kind_word}
 use Rattle.wh_admission.specs.Admission.{kept_bytes, upgrades_again, of_batch, judged_records, judged_sales, judged_voids, judged_policy, content_of, current_policy, accepted_as, receipt_of, changes_in, first_number, first_line_there, first_line_missing, number_past_lines, number_past_voids, number_for, answer_with, when_read, answer, with_content, after_answer, accepted_after, AcceptedListsStaySound}
 use Rattle.wh_model.proofs.Formatted.{format_before}
 use Rattle.wh_model.specs.Sound.{IsGoodRecord, IsGoodSale, same_line, same_void, is_sold_line, changes_kept, GivesPolicy, IsAccepted}

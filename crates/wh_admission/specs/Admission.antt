@@ -10,9 +10,9 @@ use Rattle.wh_policy.specs.declared.policy.Policy.{Policy}
 use Rattle.wh_policy.specs.declared.record.DimensionRecord.{DimensionRecord}
 use Rattle.wh_policy.specs.declared.record.SaleRecord.{SaleRecord}
 use Rattle.wh_policy.specs.declared.record.VoidRecord.{VoidRecord}
-use Rattle.wh_batch.specs.Kind.{command_kind_word}
+use Rattle.wh_batch.specs.BatchKind.{command_kind_word}
 use Rattle.wh_batch.specs.Layouts.{dimension_records, sale_records, void_records}
-use Rattle.wh_batch.specs.declared.kind.Kind.TheVariants.{Dimension, Sales, Voids}
+use Rattle.wh_batch.specs.declared.kind.BatchKind.TheVariants.{Dimension, Sales, Voids}
 use Rattle.wh_policy.specs.declared.format.Format.{Format}
 use Rattle.wh_policy.specs.declared.format.Format.TheVariants.{Two}
 use Rattle.wh_policy.specs.Formats.{is_two}

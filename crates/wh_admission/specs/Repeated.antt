@@ -1,7 +1,7 @@
 -- A command that came before, as any stored rows tell it.
 use Rattle.std.specs.Prelude.{◌≡◌, ℕ, IsTrue, Result}
 use Rattle.sqlite_rules.specs.Lists.{Has}
-use Rattle.wh_batch.specs.Kind.{command_kind_word}
+use Rattle.wh_batch.specs.BatchKind.{command_kind_word}
 use Rattle.wh_rows.specs.Raw.{Stored}
 use Rattle.wh_rows.specs.Rows as layout
 use Rattle.wh_rows.specs.declared.rows.CommandRow.{CommandRow}

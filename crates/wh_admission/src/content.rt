@@ -10,8 +10,8 @@ ghost use Rattle.wh_admission.specs.Said.{says};
 use crate::command::Refusal;
 use std::alloc::Global;
 use wh_batch::{
-    BatchFault, CommandKind, DimensionRecords, Kind, SaleRecords, VoidRecords, dimension_records,
-    sale_records, void_records,
+    BatchFault, BatchKind, CommandKind, DimensionRecords, SaleRecords, VoidRecords,
+    dimension_records, sale_records, void_records,
 };
 use wh_day::ParseError;
 use wh_policy::{Dim, Format, Policy, SaleRecord, VoidRecord};
@@ -70,15 +70,15 @@ impl Content {
         ensures { Gives says result (content_of kind format policy.now bytes.now) }
     {
         match kind {
-            CommandKind::Batch(Kind::Dimension(dim)) => {
+            CommandKind::Batch(BatchKind::Dimension(dim)) => {
                 let records = of_batch(dimension_records(alloc, dim, policy, bytes))?;
                 Ok(Content::Describes(dim, records))
             }
-            CommandKind::Batch(Kind::Sales) => {
+            CommandKind::Batch(BatchKind::Sales) => {
                 let sales = of_batch(sale_records(alloc, policy, format, bytes))?;
                 Ok(Content::Sells(sales))
             }
-            CommandKind::Batch(Kind::Voids) => {
+            CommandKind::Batch(BatchKind::Voids) => {
                 let lines = of_batch(void_records(alloc, format, bytes))?;
                 Ok(Content::Withdraws(lines))
             }

@@ -16,8 +16,8 @@ use Rattle.wh_policy.specs.declared.format.Format.TheVariants.{One, Two}
 use Rattle.wh_policy.specs.declared.policy.Policy.{Policy}
 use Rattle.wh_batch.specs.declared.fault.FaultKind.{FaultKind}
 use Rattle.wh_batch.specs.declared.fault.FaultKind.TheVariants.{TooLarge, WrongHeader}
-use Rattle.wh_batch.specs.declared.kind.Kind.{Kind}
-use Rattle.wh_batch.specs.declared.kind.Kind.TheVariants.{Dimension, Sales, Voids}
+use Rattle.wh_batch.specs.declared.kind.BatchKind.{BatchKind}
+use Rattle.wh_batch.specs.declared.kind.BatchKind.TheVariants.{Dimension, Sales, Voids}
 use Rattle.wh_batch.specs.declared.listed.RecordFault.{RecordFault}
 use Rattle.wh_batch.specs.Rows.{Table}
 use Rattle.wh_batch.specs.Columns.{Column, names}
@@ -61,7 +61,7 @@ first-batch layout bytes = by_size (ltb 1000000 (length bytes))
     by_size true = refl
     by_size false = first-below layout (records default_config (strip_bom bytes))
 
-pub first-is-read : (kind : Kind) (policy : Policy) (format : Format) → FirstIsRead (faults_of_kind kind policy format) (records_of kind policy format)
+pub first-is-read : (kind : BatchKind) (policy : Policy) (format : Format) → FirstIsRead (faults_of_kind kind policy format) (records_of kind policy format)
 unfolding faults_of_kind records_of dimension_records sale_records void_records
 first-is-read (Dimension dim) policy format bytes = first-batch (dimension_layout (policy_attributes policy dim)) bytes ∙ sym (same-fault (batch_of (dimension_layout (policy_attributes policy dim)) bytes) _)
 first-is-read Sales policy format bytes = first-batch (sales_layout format policy.years) bytes ∙ sym (same-fault (batch_of (sales_layout format policy.years) bytes) _)

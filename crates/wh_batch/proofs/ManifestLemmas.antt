@@ -3,7 +3,7 @@ use Rattle.std.proofs.Common.{◌≡◌, ℕ, List, [], ◌∷◌, Some, None, r
 use Rattle.std.specs.Prelude.{if◌then◌else◌}
 use Rattle.std.specs.Str.{is_utf8}
 use Rattle.wh_batch.specs.declared.kind.CommandKind.{CommandKind}
-use Rattle.wh_batch.specs.Kind.{command_kind_of_word}
+use Rattle.wh_batch.specs.BatchKind.{command_kind_of_word}
 use Rattle.wh_batch.specs.Manifest.{entry_of}
 use Rattle.wh_batch.proofs.EntryLemmas.{field-text}
 

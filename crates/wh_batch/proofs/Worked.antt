@@ -11,14 +11,14 @@ use Rattle.wh_batch.specs.declared.fault.FaultKind.TheVariants.{WrongHeader, Wro
 use Rattle.wh_batch.specs.declared.kind.CommandKind.{CommandKind}
 use Rattle.wh_batch.specs.declared.kind.CommandKind.TheVariants.{Batch, Migration, Upgrade}
 use Rattle.wh_policy.specs.declared.format.Format.TheVariants.{One, Two}
-use Rattle.wh_batch.specs.declared.kind.Kind.TheVariants.{Dimension, Sales, Voids}
+use Rattle.wh_batch.specs.declared.kind.BatchKind.TheVariants.{Dimension, Sales, Voids}
 use Rattle.wh_batch.specs.declared.manifest.ManifestEntry.{ManifestEntry}
 use Rattle.wh_batch.specs.declared.report_list.ListedReport.{ListedReport}
 use Rattle.wh_batch.specs.Batch.{at, records_after}
 use Rattle.wh_batch.specs.Fields.{key_of, customer_of, day_of, effective_day_of, value_of}
 use Rattle.wh_batch.specs.Numbers.{read_line, read_quantity, read_amount}
 use Rattle.wh_batch.specs.Layouts.{dimension_record, dimension_records, sale_record, sale_records, sales_layout, void_record, void_records}
-use Rattle.wh_batch.specs.Kind.{command_kind_word, command_kind_of_word}
+use Rattle.wh_batch.specs.BatchKind.{command_kind_word, command_kind_of_word}
 use Rattle.wh_batch.specs.Manifest.{entry_of, manifest_of}
 use Rattle.wh_batch.specs.ReportList.{listed_report, reports_of}
 use Rattle.wh_batch.proofs.OnLiterals.{batch_on_literals}

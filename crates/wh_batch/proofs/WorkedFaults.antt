@@ -7,8 +7,8 @@ use Rattle.wh_policy.specs.declared.format.Format.TheVariants.{One, Two}
 use Rattle.wh_batch.specs.declared.fault.FaultKind.{FaultKind}
 use Rattle.wh_batch.specs.declared.fault.FaultKind.TheVariants.{TooLarge, WrongHeader, WrongLength, BadKey, BadDay, BadValue, BadNumber, TwiceInBatch, OutsideCalendar, NotInFormat}
 use Rattle.wh_batch.specs.declared.holds.Holds.TheVariants as holds
-use Rattle.wh_batch.specs.declared.kind.Kind.{Kind}
-use Rattle.wh_batch.specs.declared.kind.Kind.TheVariants.{Dimension, Sales, Voids}
+use Rattle.wh_batch.specs.declared.kind.BatchKind.{BatchKind}
+use Rattle.wh_batch.specs.declared.kind.BatchKind.TheVariants.{Dimension, Sales, Voids}
 use Rattle.wh_batch.specs.declared.listed.RecordFault.{RecordFault}
 use Rattle.wh_batch.specs.Batch.{at}
 use Rattle.wh_batch.specs.Columns.{fault_in}
@@ -21,7 +21,7 @@ abbrev in_field : ℕ → FaultKind → ℕ → List ℕ → RecordFault
 in_field number kind place text = record { fault = at number kind; field = Some (record { place = place; text = text }) }
 
 -- the faults of a batch under the policy of a trial
-abbrev found : Kind → Format → List ℕ → List RecordFault
+abbrev found : BatchKind → Format → List ℕ → List RecordFault
 found kind format bytes = faults_of_kind kind trial_policy format bytes
 
 abbrev sales : List ℕ → List ℕ

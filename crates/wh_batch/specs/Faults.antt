@@ -12,8 +12,8 @@ use Rattle.wh_batch.specs.declared.fault.FaultKind.{FaultKind}
 use Rattle.wh_batch.specs.declared.fault.FaultKind.TheVariants.{TooLarge, WrongHeader, WrongLength, TwiceInBatch, OutsideCalendar, NotInFormat}
 use Rattle.wh_batch.specs.declared.holds.Holds.{Holds}
 use Rattle.wh_batch.specs.declared.holds.Holds.TheVariants.{Day}
-use Rattle.wh_batch.specs.declared.kind.Kind.{Kind}
-use Rattle.wh_batch.specs.declared.kind.Kind.TheVariants.{Dimension, Sales, Voids}
+use Rattle.wh_batch.specs.declared.kind.BatchKind.{BatchKind}
+use Rattle.wh_batch.specs.declared.kind.BatchKind.TheVariants.{Dimension, Sales, Voids}
 use Rattle.wh_batch.specs.declared.listed.FaultyField.{FaultyField}
 use Rattle.wh_batch.specs.declared.listed.RecordFault.{RecordFault}
 use Rattle.wh_batch.specs.declared.listed.Faults.{Faults}
@@ -88,7 +88,7 @@ faults_of layout bytes =
     else faults_below_header layout (records default_config (strip_bom bytes))
 
 -- all faults of a batch of this kind
-unfoldable pub faults_of_kind : Kind → Policy → Format → List ℕ → List RecordFault
+unfoldable pub faults_of_kind : BatchKind → Policy → Format → List ℕ → List RecordFault
 faults_of_kind (Dimension dim) policy format bytes = faults_of (dimension_layout (policy_attributes policy dim)) bytes
 faults_of_kind Sales policy format bytes = faults_of (sales_layout format policy.years) bytes
 faults_of_kind Voids policy One bytes = whole 0 NotInFormat ∷ []

@@ -16,8 +16,8 @@ use Rattle.wh_batch.specs.declared.fault.FaultKind.TheVariants.{WrongLength, Not
 use Rattle.wh_batch.specs.declared.fault.BatchFault.{BatchFault}
 use Rattle.wh_batch.specs.declared.holds.Holds.{Holds}
 use Rattle.wh_batch.specs.declared.holds.Holds.TheVariants as holds
-use Rattle.wh_batch.specs.declared.kind.Kind.{Kind}
-use Rattle.wh_batch.specs.declared.kind.Kind.TheVariants as kinds
+use Rattle.wh_batch.specs.declared.kind.BatchKind.{BatchKind}
+use Rattle.wh_batch.specs.declared.kind.BatchKind.TheVariants as kinds
 use Rattle.wh_policy.specs.declared.format.Format.{Format}
 use Rattle.wh_policy.specs.declared.format.Format.TheVariants.{One, Two}
 use Rattle.wh_batch.specs.declared.records.Records.{Records}
@@ -158,13 +158,13 @@ void_records One bytes = Err (at 0 NotInFormat)
 void_records Two bytes = batch_of voids_layout bytes
 
 -- the records of a batch of this kind, or its first fault
-unfoldable pub records_of : Kind → Policy → Format → List ℕ → Result Records BatchFault
+unfoldable pub records_of : BatchKind → Policy → Format → List ℕ → Result Records BatchFault
 records_of (kinds.Dimension dim) policy format bytes = dimension_records dim policy bytes >>= λ rs. Ok (of_kind.Dimension rs)
 records_of kinds.Sales policy format bytes = sale_records policy format bytes >>= λ rs. Ok (of_kind.Sales rs)
 records_of kinds.Voids policy format bytes = void_records format bytes >>= λ rs. Ok (of_kind.Voids rs)
 
 -- the columns of a batch of this kind
-abbrev pub columns_of : Kind → Policy → Format → List Column
+abbrev pub columns_of : BatchKind → Policy → Format → List Column
 columns_of (kinds.Dimension dim) policy format = dimension_columns (policy_attributes policy dim)
 columns_of kinds.Sales policy format = sales_columns format
 columns_of kinds.Voids policy format = void_columns

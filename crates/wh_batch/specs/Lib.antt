@@ -5,7 +5,7 @@ pub mod Faults
 pub mod Fields
 pub mod Grammar
 pub mod Keys
-pub mod Kind
+pub mod BatchKind
 pub mod Laws
 pub mod Layouts
 pub mod Lines

@@ -2,7 +2,7 @@
 use Rattle.std.specs.Prelude.{ℕ, ◌&&◌, if◌then◌else◌, List, [], ◌∷◌, Option, None, option_map, Result}
 use Rattle.std.specs.Str.{is_utf8}
 use Rattle.wh_batch.specs.Entries.{list_of}
-use Rattle.wh_batch.specs.Kind.{command_kind_of_word}
+use Rattle.wh_batch.specs.BatchKind.{command_kind_of_word}
 use Rattle.wh_batch.specs.declared.manifest.ManifestEntry.{ManifestEntry}
 use Rattle.wh_batch.specs.declared.manifest.BadManifest.{BadManifest}
 

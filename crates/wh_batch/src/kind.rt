@@ -1,13 +1,13 @@
 //! What a batch is of, and what a command is.
 
 ghost use Rattle.std.specs.Prelude.{◌≡◌};
-ghost use Rattle.wh_batch.specs.Kind.{kind_word, kind_of_word, command_kind_word, command_kind_of_word};
+ghost use Rattle.wh_batch.specs.BatchKind.{kind_word, kind_of_word, command_kind_word, command_kind_of_word};
 
 use wh_policy::Dim;
 
 /// What the records of a batch are of.
 #[derive(Clone, Copy, Debug, PartialEq, Eq)]
-pub enum Kind {
+pub enum BatchKind {
     /// Records of the members of a dimension.
     Dimension(Dim),
     /// Sales, which are lines of tickets.
@@ -16,30 +16,30 @@ pub enum Kind {
     Voids,
 }
 
-impl Kind {
+impl BatchKind {
     /// The word for it, in commands: the dimension's, `sales` or `void`.
     pub fn word(self) -> &'static str
         ensures { result.now ≡ kind_word self }
     {
         match self {
-            Kind::Dimension(dim) => dim.word(),
-            Kind::Sales => "sales",
-            Kind::Voids => "void",
+            BatchKind::Dimension(dim) => dim.word(),
+            BatchKind::Sales => "sales",
+            BatchKind::Voids => "void",
         }
     }
 
     /// The kind of a word, if it is the word for one.
-    pub fn from_word(word: &str) -> Option<Kind>
+    pub fn from_word(word: &str) -> Option<BatchKind>
         ensures { result ≡ kind_of_word word.now }
     {
         if word == "sales" {
-            return Some(Kind::Sales);
+            return Some(BatchKind::Sales);
         }
         if word == "void" {
-            return Some(Kind::Voids);
+            return Some(BatchKind::Voids);
         }
         match Dim::from_word(word) {
-            Some(dim) => Some(Kind::Dimension(dim)),
+            Some(dim) => Some(BatchKind::Dimension(dim)),
             None => None,
         }
     }
@@ -49,7 +49,7 @@ impl Kind {
 #[derive(Clone, Copy, Debug, PartialEq, Eq)]
 pub enum CommandKind {
     /// A batch of records.
-    Batch(Kind),
+    Batch(BatchKind),
     /// A new policy, which is in force from then on.
     Migration,
     /// The second format, from then on.
@@ -78,7 +78,7 @@ impl CommandKind {
         if word == "upgrade" {
             return Some(CommandKind::Upgrade);
         }
-        match Kind::from_word(word) {
+        match BatchKind::from_word(word) {
             Some(kind) => Some(CommandKind::Batch(kind)),
             None => None,
         }

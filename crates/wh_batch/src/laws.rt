@@ -10,7 +10,7 @@ ghost use Rattle.wh_policy.specs.declared.format.Format.{Format};
 ghost use Rattle.wh_policy.specs.declared.format.Format.TheVariants.{Two};
 ghost use Rattle.wh_batch.specs.Layouts.{dimension_layout, sales_layout, voids_layout, dimension_records, sale_records, void_records, records_of};
 ghost use Rattle.wh_batch.specs.Faults.{faults_of_kind};
-ghost use Rattle.wh_batch.specs.declared.kind.Kind.{Kind};
+ghost use Rattle.wh_batch.specs.declared.kind.BatchKind.{BatchKind};
 ghost use Rattle.wh_batch.specs.Numbers.{read_hundredths, read_line, read_quantity, read_amount};
 ghost use Rattle.wh_batch.specs.Grammar.{WritesHundredths, WritesLine, WritesQuantity, WritesAmount, Reads};
 ghost use Rattle.wh_batch.specs.Laws.{OneRecordMore, ReadsBatches, FaultsByColumns, PointsAtField, FirstIsRead, ListsEachRow, ListsInOrder};
@@ -40,7 +40,7 @@ pub fn numbers()
 
 /// A batch has no fault exactly where it is read, and else the first fault that is listed is the one that `read` answers.
 pub fn first_fault_is_read()
-    ensures { (kind : Kind) (policy : Policy) (format : Format) → FirstIsRead (faults_of_kind kind policy format) (records_of kind policy format) }
+    ensures { (kind : BatchKind) (policy : Policy) (format : Format) → FirstIsRead (faults_of_kind kind policy format) (records_of kind policy format) }
 {}
 
 /// Each of the first 5,000 rows is listed with the fault that reading it gives after the keys of the rows before it, if any; of all rows after

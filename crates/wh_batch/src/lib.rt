@@ -34,7 +34,7 @@ pub use dimension::dimension_records;
 pub use entries::{Entry, EntryList};
 pub use fault::{BatchFault, FaultKind};
 pub use holds::Holds;
-pub use kind::{CommandKind, Kind};
+pub use kind::{BatchKind, CommandKind};
 pub use listed::{Faults, FaultyField, FieldText, ListedFault, RecordFault};
 pub use listing::faults;
 pub use manifest::{BadManifest, Manifest, ManifestEntry};

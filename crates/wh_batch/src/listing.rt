@@ -13,7 +13,7 @@ use crate::dimension::DimensionLayout;
 use crate::fault::{BatchFault, FaultKind};
 use crate::fields::fields_of;
 use crate::keys::Keys;
-use crate::kind::Kind;
+use crate::kind::BatchKind;
 use crate::layout::RecordLayout;
 use crate::listed::{Faults, ListedFault, RecordFault};
 use crate::place::{field_of, first_difference, place_of};
@@ -30,7 +30,7 @@ use wh_policy::{Format, Policy};
 /// that is read has none. The error comes where a growth was refused, or where the CSV reader gave up.
 pub fn faults(
     alloc: Global,
-    kind: Kind,
+    kind: BatchKind,
     policy: &Policy,
     format: Format,
     bytes: &[u8],
@@ -55,7 +55,7 @@ fn first_of(mut all: Vec<ListedFault>, most: usize) -> Faults
 #[tactic(auto, unfolding(crate::specs::Faults::faults_of_kind))]
 fn faults_of_kind(
     alloc: Global,
-    kind: Kind,
+    kind: BatchKind,
     policy: &Policy,
     format: Format,
     bytes: &[u8],
@@ -63,20 +63,20 @@ fn faults_of_kind(
     ensures { IfOk result (λ all. map (λ l. l.fault) all.items ≡ faults_of_kind kind policy.now format bytes.now) }
 {
     match (kind, format) {
-        (Kind::Dimension(dim), _) => {
+        (BatchKind::Dimension(dim), _) => {
             let attributes = policy.attributes(dim);
             faults_of(alloc, &DimensionLayout { attributes }, bytes)
         }
-        (Kind::Sales, _) => {
+        (BatchKind::Sales, _) => {
             let years = policy.years;
             faults_of(alloc, &SalesLayout { format, years }, bytes)
         }
-        (Kind::Voids, Format::One) => only(
+        (BatchKind::Voids, Format::One) => only(
             alloc,
             whole(0, FaultKind::NotInFormat),
             RowPlace::of_none(),
         ),
-        (Kind::Voids, Format::Two) => faults_of(alloc, &VoidsLayout, bytes),
+        (BatchKind::Voids, Format::Two) => faults_of(alloc, &VoidsLayout, bytes),
     }
 }
 

@@ -7,7 +7,7 @@ ghost use Rattle.wh_batch.specs.Layouts.{columns_of, records_of};
 use crate::column::Column;
 use crate::dimension::{dimension_columns, dimension_records};
 use crate::fault::BatchFault;
-use crate::kind::Kind;
+use crate::kind::BatchKind;
 use crate::records::Records;
 use crate::sale::{sale_records, sales_columns};
 use crate::void::{void_columns, void_records};
@@ -20,7 +20,7 @@ use wh_policy::{Format, Policy};
 #[tactic(auto, unfolding(crate::specs::Layouts::records_of))]
 pub fn read(
     alloc: Global,
-    kind: Kind,
+    kind: BatchKind,
     policy: &Policy,
     format: Format,
     bytes: &[u8],
@@ -28,11 +28,11 @@ pub fn read(
     ensures { Gives (λ records. records) result (records_of kind policy.now format bytes.now) }
 {
     match kind {
-        Kind::Dimension(dim) => Ok(Records::Dimension(dimension_records(
+        BatchKind::Dimension(dim) => Ok(Records::Dimension(dimension_records(
             alloc, dim, policy, bytes,
         )?)),
-        Kind::Sales => Ok(Records::Sales(sale_records(alloc, policy, format, bytes)?)),
-        Kind::Voids => Ok(Records::Voids(void_records(alloc, format, bytes)?)),
+        BatchKind::Sales => Ok(Records::Sales(sale_records(alloc, policy, format, bytes)?)),
+        BatchKind::Voids => Ok(Records::Voids(void_records(alloc, format, bytes)?)),
     }
 }
 
@@ -40,15 +40,15 @@ pub fn read(
 /// have theirs in the first format too, which takes none. The error comes where memory ran out.
 pub fn columns_of<'a>(
     alloc: Global,
-    kind: Kind,
+    kind: BatchKind,
     policy: &'a Policy,
     format: Format,
 ) -> Result<Vec<Column<'a>>, AllocError>
     ensures { IfOk result (λ columns. columns.items ≡ columns_of kind policy.now format) }
 {
     match kind {
-        Kind::Dimension(dim) => dimension_columns(alloc, policy.attributes(dim)),
-        Kind::Sales => sales_columns(alloc, format),
-        Kind::Voids => void_columns(alloc),
+        BatchKind::Dimension(dim) => dimension_columns(alloc, policy.attributes(dim)),
+        BatchKind::Sales => sales_columns(alloc, format),
+        BatchKind::Voids => void_columns(alloc),
     }
 }

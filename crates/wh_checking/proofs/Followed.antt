@@ -6,7 +6,7 @@ use Rattle.std.proofs.lemmas.Slice.Eq.{bytes_eq-Decides}
 use Rattle.wh_policy.specs.Policy.{read_policy}
 use Rattle.wh_policy.specs.declared.policy.Policy.{Policy}
 use Rattle.wh_policy.specs.declared.fault.PolicyFault.{PolicyFault}
-use Rattle.wh_batch.specs.Kind.{command_kind_word, command_kind_of_word}
+use Rattle.wh_batch.specs.BatchKind.{command_kind_word, command_kind_of_word}
 use Rattle.wh_batch.specs.declared.kind.CommandKind.{CommandKind}
 use Rattle.wh_history.specs.Accepted.{Accepted, Content, format_of}
 use Rattle.wh_history.specs.Tables.{Limits}

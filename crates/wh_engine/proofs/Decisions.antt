@@ -13,7 +13,7 @@ use Rattle.wh_policy.specs.declared.record.DimensionRecord.{DimensionRecord}
 use Rattle.wh_policy.specs.declared.record.SaleRecord.{SaleRecord}
 use Rattle.wh_policy.specs.declared.record.VoidRecord.{VoidRecord}
 use Rattle.wh_policy.specs.Written.{IsSound}
-use Rattle.wh_batch.specs.declared.kind.Kind.TheVariants.{Dimension, Sales, Voids}
+use Rattle.wh_batch.specs.declared.kind.BatchKind.TheVariants.{Dimension, Sales, Voids}
 use Rattle.wh_history.specs.Keys.{at_place}
 use Rattle.wh_history.specs.Accepted.{Accepted, Content, Governs, Describes, Sells, Upgrades, policy_after, format_of, sold, sold_by, records_by, placeholders_by, Withdraws, standing, withdrawn_by}
 use Rattle.wh_history.specs.Tables.{Limits}
@@ -21,7 +21,7 @@ use Rattle.wh_batch.proofs.GoodLemmas.{cond_ok}
 use Rattle.wh_history.proofs.Basics.{some_is}
 use Rattle.wh_rows.specs.declared.rows.CommandRow.{CommandRow}
 use Rattle.wh_rows.specs.Types.{is_key}
-use Rattle.wh_batch.specs.Kind.{command_kind_word}
+use Rattle.wh_batch.specs.BatchKind.{command_kind_word}
 use Rattle.wh_admission.specs.Admission.{judged_records, judged_sales, judged_voids, judged_policy, content_of, kept_bytes, current_policy, accepted_as, receipt_of, changes_in, upgrades_again, first_line_there, first_line_missing, number_past_lines, number_past_voids, number_for, answer_with, when_read, by_id, answer, with_content, after_answer, accepted_after}
 use Rattle.wh_engine.specs.Decided.{reply_to_known, IsNew}
 use Rattle.wh_model.specs.Defined.{command_at}

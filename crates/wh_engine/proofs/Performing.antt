@@ -9,7 +9,7 @@ use Rattle.wh_policy.specs.declared.format.Format.TheVariants.{One}
 use Rattle.wh_policy.specs.declared.policy.Policy.{Policy}
 use Rattle.wh_batch.specs.declared.kind.CommandKind.{CommandKind}
 use Rattle.wh_batch.specs.declared.kind.CommandKind.TheVariants.{Batch, Migration, Upgrade}
-use Rattle.wh_batch.specs.declared.kind.Kind.TheVariants.{Dimension, Sales, Voids}
+use Rattle.wh_batch.specs.declared.kind.BatchKind.TheVariants.{Dimension, Sales, Voids}
 use Rattle.wh_batch.proofs.GoodLemmas.{bind_ok}
 use Rattle.wh_history.specs.Accepted.{Accepted, Content, Governs, Describes, Sells, Upgrades, Withdraws, format_of, formatted, policy_after}
 use Rattle.wh_history.specs.Tables.{Limits}

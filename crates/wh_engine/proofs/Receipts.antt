@@ -7,7 +7,7 @@ use Rattle.wh_history.specs.Accepted.{Accepted, Content, format_of}
 use Rattle.wh_history.specs.Keys.{place}
 use Rattle.wh_history.specs.Tables.{Limits}
 use Rattle.wh_rows.specs.Types.{is_key}
-use Rattle.wh_batch.specs.Kind.{command_kind_word}
+use Rattle.wh_batch.specs.BatchKind.{command_kind_word}
 use Rattle.wh_admission.specs.Admission.{kept_bytes, content_of, current_policy, accepted_as, receipt_of, when_read, answer, with_content, after_answer, accepted_after, receipt_told}
 use Rattle.wh_engine.specs.Redelivered.{HasReceipt}
 use Rattle.wh_admission.specs.declared.command.Command.{Command}

@@ -1,7 +1,7 @@
 -- A command that came again was kept before, whatever is stored.
 use Rattle.std.proofs.Common.{◌≡◌, ◌&&◌, Bool, true, false, cond, Some, Result, Ok, Err, [], refl, ap, ◌∙◌}
 use Rattle.std.specs.Prelude.{IfOk, filter, bytes_eq}
-use Rattle.wh_batch.specs.Kind.{command_kind_word}
+use Rattle.wh_batch.specs.BatchKind.{command_kind_word}
 use Rattle.wh_rows.specs.Questions.{has_id}
 use Rattle.wh_rows.specs.Raw.{Stored, IsLastOf}
 use Rattle.wh_rows.specs.Rows as layout

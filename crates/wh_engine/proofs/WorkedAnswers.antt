@@ -6,8 +6,8 @@ use lib.Utf8.{encode}
 use Rattle.wh_policy.specs.Policy.{trial_policy}
 use Rattle.wh_policy.specs.declared.attribute.Dim.TheVariants.{Product, Store}
 use Rattle.wh_policy.specs.declared.record.SaleRecord.{SaleRecord}
-use Rattle.wh_batch.specs.declared.kind.Kind.{Kind}
-use Rattle.wh_batch.specs.declared.kind.Kind.TheVariants.{Dimension, Sales, Voids}
+use Rattle.wh_batch.specs.declared.kind.BatchKind.{BatchKind}
+use Rattle.wh_batch.specs.declared.kind.BatchKind.TheVariants.{Dimension, Sales, Voids}
 use Rattle.wh_batch.specs.declared.fault.FaultKind.TheVariants.{NotInFormat, WrongHeader}
 use Rattle.wh_batch.specs.Batch.{at}
 use Rattle.wh_batch.proofs.OnLiterals.{batch_on_literals}
@@ -26,7 +26,7 @@ use Rattle.wh_admission.specs.declared.command.Limit.TheVariants.{Commands, Chan
 abbrev limits : ℕ → ℕ → ℕ → Limits
 limits commands changes facts = record { commands = commands; changes = changes; facts = facts }
 
-abbrev sent : List ℕ → Kind → List ℕ → Command
+abbrev sent : List ℕ → BatchKind → List ℕ → Command
 sent id kind bytes = record { id = id; kind = Batch kind; bytes = bytes }
 
 -- a receipt with these numbers

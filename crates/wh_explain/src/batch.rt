@@ -10,14 +10,15 @@ use crate::shown::{push_number, push_quoted, push_text};
 use crate::wanted::push_years;
 use std::alloc::{AllocError, Global};
 use wh_batch::{
-    BATCH_LIMIT, Column, FaultKind, Faults, FaultyField, Holds, Kind, ListedFault, MOST_RECORDS,
+    BATCH_LIMIT, BatchKind, Column, FaultKind, Faults, FaultyField, Holds, ListedFault,
+    MOST_RECORDS,
 };
 use wh_policy::{Format, Policy, Years};
 
 /// What a batch is judged by, and its bytes.
 #[derive(Drop)]
 pub(crate) struct Batch<'a> {
-    pub(crate) kind: Kind,
+    pub(crate) kind: BatchKind,
     pub(crate) policy: &'a Policy,
     pub(crate) format: Format,
     pub(crate) columns: &'a [Column<'a>],

@@ -4,7 +4,7 @@ use crate::policy::push_size;
 use crate::shown::push_text;
 use crate::wanted::push_years;
 use std::alloc::AllocError;
-use wh_batch::{CommandKind, Kind};
+use wh_batch::{BatchKind, CommandKind};
 use wh_policy::{Attribute, Dim, Format, Policy};
 
 /// Why there are no voids in format 1.
@@ -57,7 +57,7 @@ pub(crate) fn push_kind(
         (CommandKind::Upgrade, Format::Two) => {
             push_text(text, "the warehouse has format 2 already\n")
         }
-        (CommandKind::Batch(Kind::Voids), Format::One) => push_text(text, NO_VOIDS),
+        (CommandKind::Batch(BatchKind::Voids), Format::One) => push_text(text, NO_VOIDS),
         _ => Ok(()),
     }
 }

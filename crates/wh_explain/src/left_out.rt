@@ -2,7 +2,7 @@
 
 use std::alloc::{AllocError, Global};
 use std::collections::BTreeMap;
-use wh_batch::{CommandKind, Kind};
+use wh_batch::{BatchKind, CommandKind};
 use wh_day::{Value, Values};
 use wh_history::Edit;
 use wh_policy::{Attribute, AttributeType, Dim, Policy};
@@ -239,7 +239,7 @@ pub fn values_left_out(
     policy: &Policy,
     changes: &[Edit<ChangeRow, ChangeKey>],
 ) -> Result<Option<LeftOut>, AllocError> {
-    let CommandKind::Batch(Kind::Dimension(dim)) = kind else {
+    let CommandKind::Batch(BatchKind::Dimension(dim)) = kind else {
         return Ok(None);
     };
     let mut found = LeftOut::new(alloc, dim);

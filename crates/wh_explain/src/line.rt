@@ -4,7 +4,7 @@ use crate::explanation::SentCommand;
 use indexmap::IndexSet;
 use std::alloc::{AllocError, Global};
 use wh_admission::Refusal;
-use wh_batch::{CommandKind, Kind, Records, read};
+use wh_batch::{BatchKind, CommandKind, Records, read};
 use wh_day::{Day, NaturalKey, ParseError, Value};
 use wh_policy::{Format, Policy, SaleRecord, VoidRecord};
 use wh_rows::CommandRow;
@@ -72,7 +72,7 @@ pub(crate) struct Traces {
 #[derive(Debug, Drop)]
 pub struct TracedLines {
     /// Sales, where lines are there already; voids, where they don't stand.
-    kind: Kind,
+    kind: BatchKind,
     /// The place of the line that is told in the refusal.
     refused: usize,
     lines: IndexSet<TicketLine>,
@@ -84,7 +84,7 @@ pub struct TracedLines {
 }
 
 impl TracedLines {
-    fn new(alloc: Global, kind: Kind, number: u64) -> Result<TracedLines, AllocError> {
+    fn new(alloc: Global, kind: BatchKind, number: u64) -> Result<TracedLines, AllocError> {
         Ok(TracedLines {
             kind,
             refused: number.saturating_sub(1) as usize,
@@ -181,7 +181,7 @@ impl TracedLines {
             return true;
         }
         match (self.kind, self.traces.get(place)) {
-            (Kind::Voids, Some(traces)) => traces.sold.is_none() || traces.withdrawn.is_some(),
+            (BatchKind::Voids, Some(traces)) => traces.sold.is_none() || traces.withdrawn.is_some(),
             (_, Some(traces)) => traces.sold.is_some(),
             (_, None) => false,
         }
@@ -189,7 +189,7 @@ impl TracedLines {
 
     /// Whether they are of sales that are there already.
     pub(crate) fn are_sales(&self) -> bool {
-        matches!(self.kind, Kind::Sales)
+        matches!(self.kind, BatchKind::Sales)
     }
 
     /// How many lines the batch has.
@@ -224,9 +224,9 @@ impl TracedLines {
 }
 
 /// The kind of a kept command that has lines of tickets.
-fn kind_of(row: &CommandRow) -> Option<Kind> {
-    match Kind::from_word(row.kind.as_str())? {
-        Kind::Dimension(_) => None,
+fn kind_of(row: &CommandRow) -> Option<BatchKind> {
+    match BatchKind::from_word(row.kind.as_str())? {
+        BatchKind::Dimension(_) => None,
         kind => Some(kind),
     }
 }
@@ -234,7 +234,7 @@ fn kind_of(row: &CommandRow) -> Option<Kind> {
 /// The records of a batch without a fault.
 pub(crate) fn records_in(
     alloc: Global,
-    kind: Kind,
+    kind: BatchKind,
     policy: &Policy,
     format: Format,
     bytes: &[u8],
@@ -249,7 +249,7 @@ pub(crate) fn records_in(
 /// The records of a kept batch. Its header is that of the format that the warehouse had then, and no batch has both.
 fn kept_records(
     alloc: Global,
-    kind: Kind,
+    kind: BatchKind,
     policy: &Policy,
     bytes: &[u8],
 ) -> Result<Option<Records>, AllocError> {
@@ -276,7 +276,7 @@ fn add_voids(lines: &mut TracedLines, voids: &[VoidRecord]) -> Result<(), AllocE
 /// The lines of a batch, of which the record with this number is refused.
 fn lines_sent(
     alloc: Global,
-    kind: Kind,
+    kind: BatchKind,
     sent: &SentCommand,
     number: u64,
 ) -> Result<Option<TracedLines>, AllocError> {

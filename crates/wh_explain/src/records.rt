@@ -7,7 +7,7 @@ use crate::line::records_in;
 use crate::row::{push_column, push_line, push_more};
 use crate::shown::{push_place, push_quoted, push_text};
 use std::alloc::{AllocError, Global};
-use wh_batch::{Column, CommandKind, Kind, Records, RowPlace, columns_of, row_places};
+use wh_batch::{BatchKind, Column, CommandKind, Records, RowPlace, columns_of, row_places};
 use wh_day::Value;
 use wh_policy::{Attribute, DimensionRecord};
 
@@ -192,7 +192,7 @@ pub(crate) fn push_records(
     let CommandKind::Batch(kind) = sent.kind else {
         return Ok(());
     };
-    let Kind::Dimension(dim) = kind else {
+    let BatchKind::Dimension(dim) = kind else {
         return Ok(());
     };
     let Some(Records::Dimension(records)) = records_in(

@@ -7,7 +7,7 @@ use crate::policy::{push_bad_policy, push_unfit};
 use crate::shown::push_text;
 use std::alloc::{AllocError, Global};
 use wh_admission::{Limit, Refusal};
-use wh_batch::{CommandKind, Kind, columns_of, faults};
+use wh_batch::{BatchKind, CommandKind, columns_of, faults};
 use wh_day::ParseError;
 use wh_policy::Policy;
 
@@ -18,7 +18,7 @@ const MOST_FAULTY: usize = 20;
 fn push_batch(
     text: &mut Vec<u8>,
     alloc: Global,
-    kind: Kind,
+    kind: BatchKind,
     sent: &SentCommand,
 ) -> Result<(), AllocError> {
     let found = faults(

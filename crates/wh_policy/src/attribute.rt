@@ -69,84 +69,102 @@ pub enum AttributeType {
     DualKeys,
 }
 
+// The table of types, a row each.
+
+const RETAIN_ORIGINAL: TypeRule = TypeRule {
+    number: 0,
+    main: MainColumn::Original,
+    second: SecondColumn::Nothing,
+    profile: ProfilePart::NoPart,
+    was: Some(ValuePlace::Main),
+    is_now: Some(ValuePlace::Main),
+    prior: None,
+};
+
+const OVERWRITE: TypeRule = TypeRule {
+    number: 1,
+    main: MainColumn::Latest,
+    second: SecondColumn::Nothing,
+    profile: ProfilePart::NoPart,
+    was: Some(ValuePlace::Main),
+    is_now: Some(ValuePlace::Main),
+    prior: None,
+};
+
+const NEW_ROW: TypeRule = TypeRule {
+    number: 2,
+    main: MainColumn::FirstDay,
+    second: SecondColumn::Nothing,
+    profile: ProfilePart::NoPart,
+    was: Some(ValuePlace::Main),
+    is_now: None,
+    prior: None,
+};
+
+const NEW_ATTRIBUTE: TypeRule = TypeRule {
+    number: 3,
+    main: MainColumn::Latest,
+    second: SecondColumn::Prior,
+    profile: ProfilePart::NoPart,
+    was: None,
+    is_now: Some(ValuePlace::Main),
+    prior: Some(ValuePlace::Second),
+};
+
+const MINI_DIMENSION: TypeRule = TypeRule {
+    number: 4,
+    main: MainColumn::Nothing,
+    second: SecondColumn::Nothing,
+    profile: ProfilePart::Part,
+    was: Some(ValuePlace::SaleProfile),
+    is_now: None,
+    prior: None,
+};
+
+const MINI_DIMENSION_OUTRIGGER: TypeRule = TypeRule {
+    number: 5,
+    main: MainColumn::Nothing,
+    second: SecondColumn::Nothing,
+    profile: ProfilePart::PartAndNewest,
+    was: Some(ValuePlace::SaleProfile),
+    is_now: Some(ValuePlace::NewestProfile),
+    prior: None,
+};
+
+const NEW_ROW_AND_OVERWRITE: TypeRule = TypeRule {
+    number: 6,
+    main: MainColumn::FirstDay,
+    second: SecondColumn::Latest,
+    profile: ProfilePart::NoPart,
+    was: Some(ValuePlace::Main),
+    is_now: Some(ValuePlace::Second),
+    prior: None,
+};
+
+const DUAL_KEYS: TypeRule = TypeRule {
+    number: 7,
+    main: MainColumn::FirstDay,
+    second: SecondColumn::Nothing,
+    profile: ProfilePart::NoPart,
+    was: Some(ValuePlace::Main),
+    is_now: Some(ValuePlace::CurrentMain),
+    prior: None,
+};
+
 impl AttributeType {
     /// What it says of its attributes.
     pub fn rule(self) -> TypeRule
         ensures { result ≡ rule self }
     {
         match self {
-            AttributeType::RetainOriginal => TypeRule {
-                number: 0,
-                main: MainColumn::Original,
-                second: SecondColumn::Nothing,
-                profile: ProfilePart::NoPart,
-                was: Some(ValuePlace::Main),
-                is_now: Some(ValuePlace::Main),
-                prior: None,
-            },
-            AttributeType::Overwrite => TypeRule {
-                number: 1,
-                main: MainColumn::Latest,
-                second: SecondColumn::Nothing,
-                profile: ProfilePart::NoPart,
-                was: Some(ValuePlace::Main),
-                is_now: Some(ValuePlace::Main),
-                prior: None,
-            },
-            AttributeType::NewRow => TypeRule {
-                number: 2,
-                main: MainColumn::FirstDay,
-                second: SecondColumn::Nothing,
-                profile: ProfilePart::NoPart,
-                was: Some(ValuePlace::Main),
-                is_now: None,
-                prior: None,
-            },
-            AttributeType::NewAttribute => TypeRule {
-                number: 3,
-                main: MainColumn::Latest,
-                second: SecondColumn::Prior,
-                profile: ProfilePart::NoPart,
-                was: None,
-                is_now: Some(ValuePlace::Main),
-                prior: Some(ValuePlace::Second),
-            },
-            AttributeType::MiniDimension => TypeRule {
-                number: 4,
-                main: MainColumn::Nothing,
-                second: SecondColumn::Nothing,
-                profile: ProfilePart::Part,
-                was: Some(ValuePlace::SaleProfile),
-                is_now: None,
-                prior: None,
-            },
-            AttributeType::MiniDimensionOutrigger => TypeRule {
-                number: 5,
-                main: MainColumn::Nothing,
-                second: SecondColumn::Nothing,
-                profile: ProfilePart::PartAndNewest,
-                was: Some(ValuePlace::SaleProfile),
-                is_now: Some(ValuePlace::NewestProfile),
-                prior: None,
-            },
-            AttributeType::NewRowAndOverwrite => TypeRule {
-                number: 6,
-                main: MainColumn::FirstDay,
-                second: SecondColumn::Latest,
-                profile: ProfilePart::NoPart,
-                was: Some(ValuePlace::Main),
-                is_now: Some(ValuePlace::Second),
-                prior: None,
-            },
-            AttributeType::DualKeys => TypeRule {
-                number: 7,
-                main: MainColumn::FirstDay,
-                second: SecondColumn::Nothing,
-                profile: ProfilePart::NoPart,
-                was: Some(ValuePlace::Main),
-                is_now: Some(ValuePlace::CurrentMain),
-                prior: None,
-            },
+            AttributeType::RetainOriginal => RETAIN_ORIGINAL,
+            AttributeType::Overwrite => OVERWRITE,
+            AttributeType::NewRow => NEW_ROW,
+            AttributeType::NewAttribute => NEW_ATTRIBUTE,
+            AttributeType::MiniDimension => MINI_DIMENSION,
+            AttributeType::MiniDimensionOutrigger => MINI_DIMENSION_OUTRIGGER,
+            AttributeType::NewRowAndOverwrite => NEW_ROW_AND_OVERWRITE,
+            AttributeType::DualKeys => DUAL_KEYS,
         }
     }
 

@@ -11,8 +11,8 @@ use Rattle.wh_batch.specs.Columns.{Column}
 use Rattle.wh_batch.specs.Layouts.{columns_of}
 use Rattle.wh_batch.specs.declared.kind.CommandKind.{CommandKind}
 use Rattle.wh_batch.specs.declared.kind.CommandKind.TheVariants.{Batch, Migration, Upgrade}
-use Rattle.wh_batch.specs.declared.kind.Kind.{Kind}
-use Rattle.wh_batch.specs.declared.kind.Kind.TheVariants.{Dimension, Sales, Voids}
+use Rattle.wh_batch.specs.declared.kind.BatchKind.{BatchKind}
+use Rattle.wh_batch.specs.declared.kind.BatchKind.TheVariants.{Dimension, Sales, Voids}
 use Rattle.wh_history.specs.Accepted.{Accepted, format_of}
 use Rattle.wh_history.specs.Tables.{Limits}
 use Rattle.wh_admission.specs.Admission.{current_policy}
@@ -65,7 +65,7 @@ abbrev pub header_line : List Column → List ℕ
 header_line columns = line (join_by (λ column. column.name) (codes ",") columns)
 
 -- what comes first of what a batch takes: the header that is wanted, where the format has such batches
-abbrev pub first_of_batch : Kind → Policy → Format → List ℕ
+abbrev pub first_of_batch : BatchKind → Policy → Format → List ℕ
 first_of_batch (Dimension dim) policy format = header_line (columns_of (Dimension dim) policy format)
 first_of_batch Sales policy format = header_line (columns_of Sales policy format)
 first_of_batch Voids policy One = []

@@ -22,9 +22,9 @@ use crate::words::{dim, number, push_next, push_number, push_values};
 use std::alloc::{AllocError, Global};
 use std::fmt::Write;
 use wh_batch::{
-    BadManifest, BatchFault, DimensionRecords, Faults, Kind, ListedFault, ListedReport, Manifest,
-    ManifestEntry, Records, ReportList, SaleRecords, VoidRecords, columns_of, dimension_records,
-    faults, lines_above, read, sale_records, void_records,
+    BadManifest, BatchFault, BatchKind, DimensionRecords, Faults, ListedFault, ListedReport,
+    Manifest, ManifestEntry, Records, ReportList, SaleRecords, VoidRecords, columns_of,
+    dimension_records, faults, lines_above, read, sale_records, void_records,
 };
 use wh_day::{Day, NaturalKey, ParseError, Values};
 use wh_policy::{DimensionRecord, Format, Policy, SaleRecord, VoidRecord};
@@ -70,11 +70,11 @@ fn batch_step(alloc: Global, words: &str, answer: &mut String) -> Result<(), All
 }
 
 /// The kind that a word names.
-fn kind(word: &str) -> Kind {
+fn kind(word: &str) -> BatchKind {
     match word {
-        "sales" | "discounted" => Kind::Sales,
-        "void" | "early" => Kind::Voids,
-        _ => Kind::Dimension(dim(word)),
+        "sales" | "discounted" => BatchKind::Sales,
+        "void" | "early" => BatchKind::Voids,
+        _ => BatchKind::Dimension(dim(word)),
     }
 }
 
@@ -122,17 +122,17 @@ fn push_batch(
 ) -> Result<(), AllocError> {
     let policy = Policy::trial(alloc)?;
     match kind(word) {
-        Kind::Dimension(dim) => {
+        BatchKind::Dimension(dim) => {
             match dimension_records(alloc, dim, &policy, text) {
                 Ok(records) => push_members(answer, &records),
                 Err(e) => push_fault(answer, e),
             }
         }
-        Kind::Sales => match sale_records(alloc, &policy, format_of(word), text) {
+        BatchKind::Sales => match sale_records(alloc, &policy, format_of(word), text) {
             Ok(records) => push_sales(answer, &records),
             Err(e) => push_fault(answer, e),
         },
-        Kind::Voids => match void_records(alloc, format_of(word), text) {
+        BatchKind::Voids => match void_records(alloc, format_of(word), text) {
             Ok(records) => push_voids(answer, &records),
             Err(e) => push_fault(answer, e),
         },
@@ -367,7 +367,7 @@ fn key(text: &str) -> Option<NaturalKey> {
 
 fn push_made(alloc: Global, answer: &mut String, word: &str) -> Result<(), AllocError> {
     match kind(word) {
-        Kind::Dimension(_) => {
+        BatchKind::Dimension(_) => {
             let mut records = DimensionRecords::new(alloc);
             if let Some(natural) = key("C9") {
                 let day = Day::first();
@@ -380,8 +380,8 @@ fn push_made(alloc: Global, answer: &mut String, word: &str) -> Result<(), Alloc
             }
             push_members(answer, &records)
         }
-        Kind::Sales => push_made_sale(alloc, answer),
-        Kind::Voids => push_made_void(alloc, answer),
+        BatchKind::Sales => push_made_sale(alloc, answer),
+        BatchKind::Voids => push_made_void(alloc, answer),
     }
 }
 

@@ -14,7 +14,7 @@ use Rattle.wh_policy.specs.declared.attribute.Dim.TheVariants.{Product, Store, C
 use Rattle.wh_policy.specs.declared.policy.Policy.{Policy}
 use Rattle.wh_policy.specs.declared.record.DimensionRecord.{DimensionRecord}
 use Rattle.wh_batch.specs.declared.kind.CommandKind.TheVariants.{Batch}
-use Rattle.wh_batch.specs.declared.kind.Kind.TheVariants.{Dimension}
+use Rattle.wh_batch.specs.declared.kind.BatchKind.TheVariants.{Dimension}
 use Rattle.wh_history.specs.Accepted.{Accepted, Content, Governs, Describes, policy_after, format_of, described, described_by, sold, sold_by}
 use Rattle.wh_history.specs.Tables.{Limits}
 use Rattle.wh_history.proofs.Joins.{all_append}

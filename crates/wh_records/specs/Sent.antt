@@ -7,7 +7,7 @@ use Rattle.wh_policy.specs.declared.attribute.Dim.{Dim}
 use Rattle.wh_policy.specs.declared.policy.Policy.{Policy}
 use Rattle.wh_policy.specs.declared.record.DimensionRecord.{DimensionRecord}
 use Rattle.wh_batch.specs.declared.kind.CommandKind.TheVariants.{Batch}
-use Rattle.wh_batch.specs.declared.kind.Kind.TheVariants.{Dimension}
+use Rattle.wh_batch.specs.declared.kind.BatchKind.TheVariants.{Dimension}
 use Rattle.wh_history.specs.Accepted.{Accepted}
 use Rattle.wh_history.specs.Tables.{Limits}
 use Rattle.wh_model.specs.Sound.{making_of}

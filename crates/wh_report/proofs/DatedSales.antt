@@ -21,7 +21,7 @@ use Rattle.wh_policy.specs.declared.record.VoidRecord.{VoidRecord}
 use Rattle.wh_batch.specs.Layouts.{sales_layout, sale_records}
 use Rattle.wh_batch.specs.declared.fault.BatchFault.{BatchFault}
 use Rattle.wh_policy.specs.declared.format.Format.{Format}
-use Rattle.wh_batch.specs.declared.kind.Kind.TheVariants.{Dimension, Sales, Voids}
+use Rattle.wh_batch.specs.declared.kind.BatchKind.TheVariants.{Dimension, Sales, Voids}
 use Rattle.wh_batch.proofs.GoodLemmas.{reads_batches}
 use Rattle.wh_history.specs.Accepted.{Accepted, Content, Governs, Describes, Sells, Upgrades, Withdraws, format_of, governed, policy_after, sold, sold_by}
 use Rattle.wh_history.specs.Tables.{Limits}

@@ -11,9 +11,9 @@ use Rattle.wh_admission.specs.declared.command.Command.{Command}
 use Rattle.wh_admission.specs.declared.command.Refusal.{Refusal}
 use Rattle.wh_admission.specs.declared.command.Reply.{Reply}
 use Rattle.wh_admission.specs.declared.command.Reply.TheVariants.{Accepted as Accepts, Already}
-use Rattle.wh_batch.specs.Kind.{kind_of_word, kind_word}
-use Rattle.wh_batch.specs.declared.kind.Kind.{Kind}
-use Rattle.wh_batch.specs.declared.kind.Kind.TheVariants.{Dimension, Sales, Voids}
+use Rattle.wh_batch.specs.BatchKind.{kind_of_word, kind_word}
+use Rattle.wh_batch.specs.declared.kind.BatchKind.{BatchKind}
+use Rattle.wh_batch.specs.declared.kind.BatchKind.TheVariants.{Dimension, Sales, Voids}
 use Rattle.wh_batch.specs.declared.kind.CommandKind.{CommandKind}
 use Rattle.wh_batch.specs.declared.kind.CommandKind.TheVariants.{Batch, Migration, Upgrade}
 use Rattle.wh_batch.specs.declared.manifest.ManifestEntry.{ManifestEntry}
@@ -46,14 +46,14 @@ use Rattle.wh_session.proofs.OutputLemmas.{fails_so}
 
 -- ---- the words
 
-kind_known : (kind : Kind) → kind_of_word (kind_word kind) ≡ Some kind
+kind_known : (kind : BatchKind) → kind_of_word (kind_word kind) ≡ Some kind
 kind_known (Dimension Product) = refl
 kind_known (Dimension Store) = refl
 kind_known (Dimension Customer) = refl
 kind_known Sales = refl
 kind_known Voids = refl
 
-kind_plain : (kind : Kind) → is_operand (kind_word kind) ≡ true
+kind_plain : (kind : BatchKind) → is_operand (kind_word kind) ≡ true
 kind_plain (Dimension Product) = refl
 kind_plain (Dimension Store) = refl
 kind_plain (Dimension Customer) = refl
@@ -75,7 +75,7 @@ unfolding command_of
 sending_asks file (Batch kind) id path f i p =
     read (codes "load" ∷ file ∷ kind_word kind ∷ id ∷ path ∷ []) (sent_line (codes "load") (file ∷ kind_word kind ∷ id ∷ path ∷ []))
     (record { words_are = refl; operands = both (both f (both (kind_plain kind) (both i (both p refl)))) refl })
-    ∙ ap (λ (k : Option Kind). no_line (ok_or (option_map (λ (found : Kind). task.Load found id path) k) (no_kind_line (kind_word kind)) >>= λ work. Ok (task.Over file work))) (kind_known kind)
+    ∙ ap (λ (k : Option BatchKind). no_line (ok_or (option_map (λ (found : BatchKind). task.Load found id path) k) (no_kind_line (kind_word kind)) >>= λ work. Ok (task.Over file work))) (kind_known kind)
 sending_asks file Migration id path f i p = read (codes "migrate" ∷ file ∷ id ∷ path ∷ []) (sent_line (codes "migrate") (file ∷ id ∷ path ∷ [])) (record { words_are = refl; operands = both (both f (both i (both p refl))) refl })
 sending_asks file Upgrade id path f i p = read (codes "upgrade" ∷ file ∷ id ∷ []) (sent_line (codes "upgrade") (file ∷ id ∷ [])) (record { words_are = refl; operands = both (both f (both i refl)) refl })
 

@@ -4,10 +4,10 @@ use Rattle.clap.specs.Words.{Text}
 use Rattle.wh_day.specs.Reading.{◌>>=◌, unless_fault}
 use Rattle.wh_policy.specs.declared.attribute.Dim.{Dim}
 use Rattle.wh_policy.specs.Words.{dim_of_word}
-use Rattle.wh_batch.specs.declared.kind.Kind.{Kind}
+use Rattle.wh_batch.specs.declared.kind.BatchKind.{BatchKind}
 use Rattle.wh_batch.specs.declared.kind.CommandKind.{CommandKind}
 use Rattle.wh_batch.specs.declared.mode.Mode.{Mode}
-use Rattle.wh_batch.specs.Kind.{kind_of_word, command_kind_of_word}
+use Rattle.wh_batch.specs.BatchKind.{kind_of_word, command_kind_of_word}
 use Rattle.wh_batch.specs.Mode.{mode_of_word}
 use Rattle.wh_batch.specs.Numbers.{read_digits}
 use Rattle.wh_batch.specs.QueryWords.{ColumnGiven, ConditionGiven, column_given, condition_given}
@@ -44,7 +44,7 @@ pub data Work : Type 0 where
   Records : Dim → (from : ℕ) → Work
   Query : QueryWords → Work
   Init : (policy : Text) → Work
-  Load : Kind → (id path : Text) → Work
+  Load : BatchKind → (id path : Text) → Work
   Migrate : (id policy : Text) → Work
   Upgrade : (id : Text) → Work
   Deliver : (manifest : Text) → Work

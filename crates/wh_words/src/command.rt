@@ -22,7 +22,7 @@ use clap::ArgMatches;
 use clap::error::ErrorKind;
 use std::alloc::{AllocError, Global};
 use std::convert::AsStr;
-use wh_batch::{CommandKind, Kind, Mode, read_number};
+use wh_batch::{BatchKind, CommandKind, Mode, read_number};
 use wh_policy::Dim;
 use wh_rows::Table;
 
@@ -51,7 +51,7 @@ pub enum Work<'a> {
     },
     /// The load of the batch in the file `path`, under an id.
     Load {
-        kind: Kind,
+        kind: BatchKind,
         id: &'a str,
         path: &'a str,
     },
@@ -259,7 +259,7 @@ fn load_request<'a>(alloc: Global, given: &ArgMatches<'a>) -> Result<Request<'a>
     ensures { IfOk result (λ request. asked_in request ≡ Some (asks_of load_command (given_in given.now))) }
 {
     let kind = word_for(given, "KIND");
-    match Kind::from_word(kind) {
+    match BatchKind::from_word(kind) {
         Some(kind) => Ok(over(
             given,
             Work::Load {

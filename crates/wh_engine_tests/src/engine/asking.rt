@@ -9,7 +9,7 @@ use sqlite::Alter;
 use sqlite_value::value::Bytes;
 use std::alloc::{AllocError, Global};
 use std::fmt::Write;
-use wh_batch::Kind;
+use wh_batch::BatchKind;
 use wh_checking::{Check, Verdict};
 use wh_day::Value;
 use wh_engine::{
@@ -38,11 +38,11 @@ fn kind_of(word: &str) -> Result<CommandKind, Trouble> {
     match word {
         "migrate" => Ok(CommandKind::Migration),
         "upgrade" => Ok(CommandKind::Upgrade),
-        "product" => Ok(CommandKind::Batch(Kind::Dimension(Dim::Product))),
-        "store" => Ok(CommandKind::Batch(Kind::Dimension(Dim::Store))),
-        "customer" => Ok(CommandKind::Batch(Kind::Dimension(Dim::Customer))),
-        "sales" => Ok(CommandKind::Batch(Kind::Sales)),
-        "void" => Ok(CommandKind::Batch(Kind::Voids)),
+        "product" => Ok(CommandKind::Batch(BatchKind::Dimension(Dim::Product))),
+        "store" => Ok(CommandKind::Batch(BatchKind::Dimension(Dim::Store))),
+        "customer" => Ok(CommandKind::Batch(BatchKind::Dimension(Dim::Customer))),
+        "sales" => Ok(CommandKind::Batch(BatchKind::Sales)),
+        "void" => Ok(CommandKind::Batch(BatchKind::Voids)),
         _ => Err(Trouble),
     }
 }

@@ -6,7 +6,7 @@ use crate::trouble::Trouble;
 use sqlite::Alter;
 use sqlite_value::value::Bytes;
 use std::alloc::Global;
-use wh_batch::Kind;
+use wh_batch::BatchKind;
 use wh_day::Value;
 use wh_engine::{Command, CommandKind, Engine, Part};
 use wh_policy::Dim;
@@ -77,7 +77,7 @@ fn part_command(alloc: Global, dim: Dim, from: usize, part: &Part) -> Result<Com
     push_number(&mut id, from as u64)?;
     Ok(Command {
         id: Value::new(alloc, id.as_str())?,
-        kind: CommandKind::Batch(Kind::Dimension(dim)),
+        kind: CommandKind::Batch(BatchKind::Dimension(dim)),
         bytes: Bytes::from_slice(alloc, &part.text)?,
     })
 }

@@ -3,7 +3,7 @@
 use sqlite::{Alter, Connection};
 use sqlite_value::value::Bytes;
 use std::alloc::Global;
-use wh_batch::{Kind, Mode};
+use wh_batch::{BatchKind, Mode};
 use wh_day::Value;
 use wh_engine::{Command, CommandKind, Engine};
 use wh_report::{Request, report};
@@ -17,7 +17,7 @@ pub fn sold_by_brand<S: Alter + Drop>(
     let mut engine = Engine::open(alloc, conn).ok()?;
     let sales = Command {
         id: Value::new(alloc, "s1").ok()?,
-        kind: CommandKind::Batch(Kind::Sales),
+        kind: CommandKind::Batch(BatchKind::Sales),
         bytes: Bytes::from_slice(alloc, batch).ok()?,
     };
     engine.apply(alloc, &sales).ok()?;

@@ -10,7 +10,7 @@ ghost use Rattle.wh_program.specs.Reply.{refused_line};
 use crate::lines::answer::{Answer, Status};
 use crate::lines::{fault_answer, policy_line, push_refused};
 use std::alloc::{AllocError, Global};
-use wh_batch::{Column, CommandKind, Kind, columns_of};
+use wh_batch::{BatchKind, Column, CommandKind, columns_of};
 use wh_day::ParseError;
 use wh_engine::{Fault, Preview, Receipt, Refusal};
 use wh_explain::{
@@ -121,7 +121,7 @@ fn header_line(alloc: Global, columns: &[Column]) -> Result<Vec<u8>, AllocError>
 /// What a batch of this kind takes: its header, and what each column may hold.
 fn columns_described(
     alloc: Global,
-    kind: Kind,
+    kind: BatchKind,
     policy: &Policy,
     format: Format,
 ) -> Result<Answer, AllocError>
@@ -150,19 +150,19 @@ fn kind_described(
 /// What a batch of this kind takes, if the format has such batches.
 fn batch_described(
     alloc: Global,
-    kind: Kind,
+    kind: BatchKind,
     policy: &Policy,
     format: Format,
 ) -> Result<Answer, AllocError>
     ensures { IfOk result (Begins (done (first_of_batch kind policy.now format))) }
 {
     match (kind, format) {
-        (Kind::Voids, Format::One) => {
+        (BatchKind::Voids, Format::One) => {
             kind_described(alloc, CommandKind::Batch(kind), policy, format)
         }
-        (Kind::Voids, Format::Two) => columns_described(alloc, kind, policy, format),
-        (Kind::Dimension(_), _) => columns_described(alloc, kind, policy, format),
-        (Kind::Sales, _) => columns_described(alloc, kind, policy, format),
+        (BatchKind::Voids, Format::Two) => columns_described(alloc, kind, policy, format),
+        (BatchKind::Dimension(_), _) => columns_described(alloc, kind, policy, format),
+        (BatchKind::Sales, _) => columns_described(alloc, kind, policy, format),
     }
 }
 

@@ -1,7 +1,7 @@
 use Rattle.std.proofs.Common.{◌≡◌, true, false, Some, None, Ok, Err, sym, ap, subst, ◌∙◌}
 use Rattle.std.specs.Prelude.{bytes_eq}
 use Rattle.std.proofs.lemmas.Slice.Eq.{bytes_eq-Decides}
-use Rattle.wh_batch.specs.Kind.{command_kind_of_word}
+use Rattle.wh_batch.specs.BatchKind.{command_kind_of_word}
 use Rattle.wh_admission.specs.Admission.{kept_bytes}
 use Rattle.wh_store.specs.Reads.{state_of}
 use Rattle.wh_engine.specs.Answered.{IsAnswered}
