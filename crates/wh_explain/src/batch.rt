@@ -5,15 +5,14 @@ use crate::field::push_reason;
 use crate::further::further_faults;
 use crate::header::{Header, push_wrong_header};
 use crate::kind::NO_VOIDS;
-use crate::row::{count_of, first_line, lines_of, push_column, push_line, push_more};
-use crate::shown::{push_number, push_quoted, push_text};
-use crate::wanted::push_years;
+use crate::row::{LineAt, count_of, first_line, lines_of, push_column, push_more, push_too_long};
+use crate::shown::{Quoted, push};
 use std::alloc::{AllocError, Global};
 use wh_batch::{
     BATCH_LIMIT, BatchKind, Column, FaultKind, Faults, FaultyField, Holds, ListedFault,
     MOST_RECORDS,
 };
-use wh_policy::{Format, Policy, Years};
+use wh_policy::{Format, Policy};
 
 /// What a batch is judged by, and its bytes.
 #[derive(Drop)]
@@ -27,19 +26,13 @@ pub(crate) struct Batch<'a> {
 
 /// Too many bytes, of which no more are read, or a record too many.
 fn push_too_large(text: &mut Vec<u8>, fault: &ListedFault, bytes: &[u8]) -> Result<(), AllocError> {
-    if fault.fault.fault.number == 0 {
-        push_text(text, "the file has more than ")?;
-        push_number(text, BATCH_LIMIT as u64)?;
-        return push_text(text, " bytes, which is the most that is allowed\n");
+    let number = u64::from(fault.fault.fault.number);
+    if number == 0 {
+        return push_too_long(text, BATCH_LIMIT);
     }
-    push_line(text, bytes, fault.row.start)?;
-    push_text(text, ": record ")?;
-    push_number(text, u64::from(fault.fault.fault.number))?;
-    push_text(text, ", at most ")?;
-    push_number(text, u64::from(MOST_RECORDS))?;
-    push_text(text, " are allowed; the file has ")?;
-    push_number(text, lines_of(bytes) as u64)?;
-    push_text(text, " lines\n")
+    push!(text; LineAt(bytes, fault.row.start), ": record ", number)?;
+    push!(text; ", at most ", u64::from(MOST_RECORDS), " are allowed")?;
+    push!(text; "; the file has ", lines_of(bytes), " lines\n")
 }
 
 /// How many commas end a row.
@@ -62,11 +55,11 @@ fn is_open(row: &[u8]) -> bool {
 /// What too many fields come from.
 fn push_surplus(text: &mut Vec<u8>, row: &[u8], surplus: usize) -> Result<(), AllocError> {
     match (surplus, commas_at_end(row)) {
-        (1, 1) => push_text(text, "; the last one is empty, behind a comma at the end"),
+        (1, 1) => push!(text; "; the last one is empty, behind a comma at the end"),
         (_, commas) if commas >= surplus => {
-            push_text(text, "; the last ones are empty, behind commas at the end")
+            push!(text; "; the last ones are empty, behind commas at the end")
         }
-        _ => push_text(text, "; a field with a comma needs quotes"),
+        _ => push!(text; "; a field with a comma needs quotes"),
     }
 }
 
@@ -78,14 +71,13 @@ fn push_hint(
     wanted: usize,
 ) -> Result<(), AllocError> {
     if let Some(separator) = other_separator(row) {
-        push_text(text, "; they seem to be separated by ")?;
-        return push_text(text, separator);
+        return push!(text; "; they seem to be separated by ", separator);
     }
     if found > wanted {
         return push_surplus(text, row, found - wanted);
     }
     if is_open(row) {
-        return push_text(text, "; a quote is not closed on this line");
+        return push!(text; "; a quote is not closed on this line");
     }
     Ok(())
 }
@@ -99,14 +91,9 @@ fn push_wrong_length(
     let row = fault.row.bytes_in(batch.bytes);
     let found = fault.row.fields;
     let wanted = batch.columns.len();
-    push_text(text, ": the number of fields is ")?;
-    push_number(text, found as u64)?;
-    push_text(text, ", ")?;
-    push_number(text, wanted as u64)?;
-    push_text(text, " are wanted")?;
+    push!(text; ": the number of fields is ", found, ", ", wanted, " are wanted")?;
     push_hint(text, row, found, wanted)?;
-    push_text(text, ": ")?;
-    push_quoted(text, row)
+    push!(text; ": ", Quoted(row))
 }
 
 /// Whether a record is a line of a ticket, and not of a member.
@@ -119,18 +106,12 @@ fn has_ticket(columns: &[Column]) -> bool {
 
 /// A key that an earlier record has.
 fn push_twice(text: &mut Vec<u8>, columns: &[Column], row: &[u8]) -> Result<(), AllocError> {
-    if has_ticket(columns) {
-        push_text(text, ": an earlier record has the same ticket and line: ")?;
+    let key = if has_ticket(columns) {
+        "ticket and line"
     } else {
-        push_text(text, ": an earlier record has the same id and day: ")?;
-    }
-    push_quoted(text, row)
-}
-
-/// A day that the calendar doesn't have.
-fn push_outside(text: &mut Vec<u8>, years: Years) -> Result<(), AllocError> {
-    push_text(text, " is outside the calendar, which has the years ")?;
-    push_years(text, years)
+        "id and day"
+    };
+    push!(text; ": an earlier record has the same ", key, ": ", Quoted(row))
 }
 
 /// What is said of a field.
@@ -140,11 +121,12 @@ fn push_field(
     kind: FaultKind,
     field: &FaultyField,
 ) -> Result<(), AllocError> {
-    push_text(text, ", ")?;
+    push!(text; ", ")?;
     push_column(text, batch.columns, field.place)?;
-    push_quoted(text, field.text.as_bytes())?;
+    push!(text; Quoted(field.text.as_bytes()))?;
     if matches!(kind, FaultKind::OutsideCalendar) {
-        return push_outside(text, batch.policy.years);
+        let what = " is outside the calendar, which has the years ";
+        return push!(text; what, batch.policy.years);
     }
     match batch.columns.get(field.place) {
         Some(column) => push_reason(text, column.holds(), field.text.as_bytes()),
@@ -163,7 +145,7 @@ fn push_header(
         row: fault.row.bytes_in(batch.bytes),
         fields: fault.row.fields,
     };
-    push_text(text, ", ")?;
+    push!(text; ", ")?;
     push_wrong_header(text, batch.columns, field, &header)?;
     push_encoding_line(text, batch.bytes, "CSV")
 }
@@ -171,7 +153,7 @@ fn push_header(
 /// What is said of a row.
 fn push_row(text: &mut Vec<u8>, batch: &Batch, fault: &ListedFault) -> Result<(), AllocError> {
     let kind = fault.fault.fault.kind;
-    push_line(text, batch.bytes, fault.row.start)?;
+    push!(text; LineAt(batch.bytes, fault.row.start))?;
     match (kind, &fault.fault.field) {
         (FaultKind::WrongHeader, Some(field)) => return push_header(text, batch, fault, field),
         (_, Some(field)) => push_field(text, batch, kind, field)?,
@@ -180,7 +162,7 @@ fn push_row(text: &mut Vec<u8>, batch: &Batch, fault: &ListedFault) -> Result<()
         }
         _ => push_wrong_length(text, batch, fault)?,
     }
-    push_text(text, "\n")
+    push!(text; "\n")
 }
 
 /// The lines on the faults of a row's fields beside the one that was told of it.
@@ -193,9 +175,9 @@ fn push_further(
     let further = further_faults(alloc, batch, told)?;
     for found in &further {
         if let Some(field) = &found.field {
-            push_line(text, batch.bytes, told.row.start)?;
+            push!(text; LineAt(batch.bytes, told.row.start))?;
             push_field(text, batch, found.fault.kind, field)?;
-            push_text(text, "\n")?;
+            push!(text; "\n")?;
         }
     }
     Ok(())
@@ -210,7 +192,7 @@ fn push_fault(
 ) -> Result<(), AllocError> {
     match fault.fault.fault.kind {
         FaultKind::TooLarge => push_too_large(text, fault, batch.bytes),
-        FaultKind::NotInFormat => push_text(text, NO_VOIDS),
+        FaultKind::NotInFormat => push!(text; NO_VOIDS),
         _ => {
             push_row(text, batch, fault)?;
             push_further(text, alloc, batch, fault)

@@ -1,6 +1,6 @@
 //! The code pages of tills, in which the bytes 80 to 9F are characters. In Latin-1 and in UTF-8 they are control characters.
 
-use crate::shown::{push_hexadecimal, push_text};
+use crate::shown::{push, push_hexadecimal};
 use std::alloc::AllocError;
 
 /// What they are in Windows-1252, and nothing where it has no character.
@@ -30,13 +30,12 @@ fn character_in(page: &[&'static str], byte: u8) -> Option<&'static str> {
 
 /// What a byte from 80 to 9F is in these code pages.
 pub(crate) fn push_meanings(text: &mut Vec<u8>, byte: u8) -> Result<(), AllocError> {
-    push_text(text, "the byte ")?;
+    push!(text; "the byte ")?;
     push_hexadecimal(text, byte)?;
-    push_text(text, " is ")?;
+    push!(text; " is ")?;
     if let Some(character) = character_in(&WINDOWS, byte) {
-        push_text(text, character)?;
-        push_text(text, " in Windows-1252, ")?;
+        push!(text; character, " in Windows-1252, ")?;
     }
-    push_text(text, character_in(&DOS, byte).unwrap_or("no character"))?;
-    push_text(text, " in CP850")
+    let character = character_in(&DOS, byte).unwrap_or("no character");
+    push!(text; character, " in CP850")
 }

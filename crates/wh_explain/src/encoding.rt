@@ -1,7 +1,7 @@
 //! Signs of a file that isn't a table in UTF-8, with commas.
 
 use crate::code_pages::{is_of_code_page, push_meanings};
-use crate::shown::{push_place, push_text};
+use crate::shown::{Counted, push};
 use std::alloc::AllocError;
 
 /// The place of the first byte that isn't UTF-8.
@@ -42,14 +42,14 @@ fn code_page_byte(text: &[u8]) -> Option<u8> {
 /// What a text seems to be that begins with a byte that is no UTF-8.
 fn push_likely(text: &mut Vec<u8>, found: &[u8]) -> Result<(), AllocError> {
     if is_cut(found) {
-        return push_text(text, "; it is cut within a character, or Latin-1");
+        return push!(text; "; it is cut within a character, or Latin-1");
     }
     match code_page_byte(found) {
         Some(byte) => {
-            push_text(text, "; it looks like Windows-1252 or CP850: ")?;
+            push!(text; "; it looks like Windows-1252 or CP850: ")?;
             push_meanings(text, byte)
         }
-        None => push_text(text, "; it looks like Latin-1"),
+        None => push!(text; "; it looks like Latin-1"),
     }
 }
 
@@ -58,8 +58,7 @@ pub(crate) fn push_no_utf8(text: &mut Vec<u8>, bytes: &[u8]) -> Result<bool, All
     let Some(place) = no_utf8_at(bytes) else {
         return Ok(false);
     };
-    push_text(text, " is no UTF-8 at byte ")?;
-    push_place(text, place)?;
+    push!(text; " is no UTF-8 at byte ", Counted(place))?;
     push_likely(text, &bytes[place.min(bytes.len())..])?;
     Ok(true)
 }
@@ -87,15 +86,14 @@ fn looks_like_utf16(bytes: &[u8]) -> bool {
 /// Signs of bytes that no text has.
 fn push_no_text(text: &mut Vec<u8>, bytes: &[u8]) -> Result<bool, AllocError> {
     if looks_like_utf16(bytes) {
-        push_text(text, "the file looks like UTF-16; UTF-8 is wanted\n")?;
+        push!(text; "the file looks like UTF-16; UTF-8 is wanted\n")?;
         return Ok(true);
     }
     let Some(place) = bytes.iter().position(|byte| *byte == 0) else {
         return Ok(false);
     };
-    push_text(text, "the file has a NUL byte, which no text has, at byte ")?;
-    push_place(text, place)?;
-    push_text(text, "\n")?;
+    let what = "the file has a NUL byte, which no text has, at byte ";
+    push!(text; what, Counted(place), "\n")?;
     Ok(true)
 }
 
@@ -106,12 +104,8 @@ pub(crate) fn push_encoding_line(
     form: &str,
 ) -> Result<(), AllocError> {
     if matches!(bytes, [b'P', b'K', 3, 4, ..]) {
-        push_text(
-            text,
-            "the file is a zip or Excel file; it has to be exported as ",
-        )?;
-        push_text(text, form)?;
-        return push_text(text, "\n");
+        let what = "the file is a zip or Excel file; it has to be exported as ";
+        return push!(text; what, form, "\n");
     }
     if push_no_text(text, bytes)? {
         return Ok(());
@@ -119,14 +113,12 @@ pub(crate) fn push_encoding_line(
     let Some(place) = no_utf8_at(bytes) else {
         return Ok(());
     };
-    push_text(text, "the file looks like ")?;
+    push!(text; "the file looks like ")?;
     match code_page_byte(&bytes[place.min(bytes.len())..]) {
-        Some(_) => push_text(text, "Windows-1252 or CP850")?,
-        None => push_text(text, "Latin-1")?,
+        Some(_) => push!(text; "Windows-1252 or CP850")?,
+        None => push!(text; "Latin-1")?,
     }
-    push_text(text, ": it is no UTF-8 at byte ")?;
-    push_place(text, place)?;
-    push_text(text, "\n")
+    push!(text; ": it is no UTF-8 at byte ", Counted(place), "\n")
 }
 
 /// What seems to part the fields of a header in place of commas.

@@ -11,7 +11,7 @@ use crate::policy::{push_bad_policy, push_rules};
 use crate::records::push_records;
 use crate::refused::push_refusal;
 use crate::row::push_column;
-use crate::shown::push_text;
+use crate::shown::push;
 use crate::wanted::{push_limits, push_wanted};
 use std::alloc::{AllocError, Global};
 use wh_admission::Refusal;
@@ -42,7 +42,7 @@ fn columns_text(alloc: Global, columns: &[Column], years: Years) -> Result<Vec<u
     for place in 0..columns.len() {
         push_column(&mut text, columns, place)?;
         push_wanted(&mut text, columns[place].holds(), years)?;
-        push_text(&mut text, "\n")?;
+        push!(&mut text; "\n")?;
     }
     push_limits(&mut text, columns)?;
     Ok(text)

@@ -2,8 +2,8 @@
 
 use crate::encoding::push_no_utf8;
 use crate::number::number_reason;
-use crate::shown::{push_character, push_number, push_place, push_text};
-use crate::wanted::{most_bytes, wanted};
+use crate::shown::{Counted, push, push_character};
+use crate::wanted::{most_bytes, push_wanted_of};
 use std::alloc::AllocError;
 use wh_batch::Holds;
 use wh_day::Day;
@@ -19,27 +19,20 @@ pub(crate) fn push_reason(
     }
     match most_bytes(holds) {
         Some(most) if field.len() > most && !field.contains(&b'\n') => {
-            push_too_long(text, field.len(), most)
+            let found = field.len();
+            push!(text; " has ", found, " bytes, at most ", most, " are allowed")
         }
         _ => push_other_reason(text, holds, field),
     }
 }
 
-fn push_too_long(text: &mut Vec<u8>, found: usize, most: usize) -> Result<(), AllocError> {
-    push_text(text, " has ")?;
-    push_number(text, found as u64)?;
-    push_text(text, " bytes, at most ")?;
-    push_number(text, most as u64)?;
-    push_text(text, " are allowed")
-}
-
 fn push_other_reason(text: &mut Vec<u8>, holds: Holds, field: &[u8]) -> Result<(), AllocError> {
     match fixed_reason(holds, field) {
-        Some(reason) => push_text(text, reason)?,
+        Some(reason) => push!(text; reason)?,
         None => push_bad_byte(text, holds, field)?,
     }
-    push_text(text, "; wanted: ")?;
-    push_text(text, wanted(holds))
+    push!(text; "; wanted: ")?;
+    push_wanted_of(text, holds)
 }
 
 fn is_blank(byte: Option<&u8>) -> bool {
@@ -123,20 +116,19 @@ fn is_taken(holds: Holds, byte: u8) -> bool {
 /// The first character that a column's fields may not have, and where it stands.
 fn push_bad_byte(text: &mut Vec<u8>, holds: Holds, field: &[u8]) -> Result<(), AllocError> {
     let Some(place) = field.iter().position(|byte| !is_taken(holds, *byte)) else {
-        return push_text(text, " isn't allowed");
+        return push!(text; " isn't allowed");
     };
-    push_text(text, " has ")?;
+    push!(text; " has ")?;
     push_bad(text, &field[place..])?;
-    push_text(text, " at byte ")?;
-    push_place(text, place)
+    push!(text; " at byte ", Counted(place))
 }
 
 fn push_bad(text: &mut Vec<u8>, field: &[u8]) -> Result<(), AllocError> {
     match field {
-        [b'\n' | b'\r', ..] => push_text(text, "a line end (a quote not closed?)"),
-        [b'\t', ..] => push_text(text, "a tab"),
-        [0, ..] => push_text(text, "a NUL byte"),
-        [b' ', ..] => push_text(text, "a blank"),
+        [b'\n' | b'\r', ..] => push!(text; "a line end (a quote not closed?)"),
+        [b'\t', ..] => push!(text; "a tab"),
+        [0, ..] => push!(text; "a NUL byte"),
+        [b' ', ..] => push!(text; "a blank"),
         _ => push_character(text, field),
     }
 }

@@ -2,7 +2,7 @@
 
 use crate::batch::Batch;
 use crate::header::push_names;
-use crate::shown::push_text;
+use crate::shown::push;
 use csv::{ByteRecord, ReaderBuilder};
 use std::alloc::{AllocError, Global};
 use wh_batch::{FaultKind, Holds, ListedFault, RecordFault, faults};
@@ -39,7 +39,7 @@ fn trial(alloc: Global, batch: &Batch, place: usize, field: &[u8]) -> Result<Vec
         if other == place {
             push_field(&mut text, field)?;
         } else {
-            push_text(&mut text, good_text(batch.columns[other].holds()))?;
+            push!(&mut text; good_text(batch.columns[other].holds()))?;
         }
     }
     Ok(text)

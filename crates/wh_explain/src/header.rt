@@ -5,7 +5,7 @@ ghost use Rattle.std.specs.List.{join_by};
 
 use crate::encoding::other_separator;
 use crate::row::push_column;
-use crate::shown::{push_header, push_place, push_quoted, push_text};
+use crate::shown::{Counted, Quoted, push, push_header};
 use std::alloc::AllocError;
 use wh_batch::{Column, FaultyField};
 
@@ -44,11 +44,11 @@ pub(crate) struct Header<'a> {
 
 /// A column too many, without a name.
 fn push_nameless(text: &mut Vec<u8>, header: &Header) -> Result<(), AllocError> {
-    push_text(text, "a further column without a name stands there")?;
+    push!(text; "a further column without a name stands there")?;
     if matches!(header.row, [.., b',']) {
-        push_text(text, " (the header ends with a comma)")?;
+        push!(text; " (the header ends with a comma)")?;
     }
-    push_text(text, "; no column is wanted there")
+    push!(text; "; no column is wanted there")
 }
 
 /// How a name in a header differs from the one that is wanted.
@@ -63,17 +63,15 @@ fn push_difference(
         return push_nameless(text, header);
     }
     if found.is_empty() {
-        return push_text(text, "nothing stands there");
+        return push!(text; "nothing stands there");
     }
-    push_quoted(text, found)?;
-    push_text(text, " stands there")?;
+    push!(text; Quoted(found), " stands there")?;
     if let Some(place) = place_of(columns, found) {
-        push_text(text, "; it belongs in column ")?;
-        return push_place(text, place);
+        return push!(text; "; it belongs in column ", Counted(place));
     }
     match columns.get(field.place) {
         Some(column) => push_slip(text, column.name().as_bytes(), found),
-        None => push_text(text, "; no column is wanted there"),
+        None => push!(text; "; no column is wanted there"),
     }
 }
 
@@ -84,24 +82,24 @@ fn push_slip(text: &mut Vec<u8>, wanted: &[u8], found: &[u8]) -> Result<(), Allo
         return Ok(());
     }
     if name != wanted {
-        push_text(text, "; small letters are wanted")?;
+        push!(text; "; small letters are wanted")?;
     }
     if name.len() < found.len() {
-        push_text(text, "; it has blanks around it")?;
+        push!(text; "; it has blanks around it")?;
     }
     Ok(())
 }
 
 /// The header that is wanted, and below it the one that is there.
 fn push_both(text: &mut Vec<u8>, columns: &[Column], there: &[u8]) -> Result<(), AllocError> {
-    push_text(text, "wanted: ")?;
+    push!(text; "wanted: ")?;
     push_names(text, columns)?;
-    push_text(text, "\nthere: ")?;
+    push!(text; "\nthere: ")?;
     if there.is_empty() {
-        push_text(text, "nothing")?;
+        push!(text; "nothing")?;
     }
     push_header(text, there)?;
-    push_text(text, "\n")
+    push!(text; "\n")
 }
 
 /// A line on what parts the fields, where it isn't commas.
@@ -109,9 +107,8 @@ fn push_separator_line(text: &mut Vec<u8>, there: &[u8]) -> Result<(), AllocErro
     let Some(separator) = other_separator(there) else {
         return Ok(());
     };
-    push_text(text, "the file seems to be separated by ")?;
-    push_text(text, separator)?;
-    push_text(text, "; commas are wanted\n")
+    let what = "the file seems to be separated by ";
+    push!(text; what, separator, "; commas are wanted\n")
 }
 
 /// The lines on a wrong header: where it first differs, the one that is wanted, and the one that is there.
@@ -123,7 +120,7 @@ pub(crate) fn push_wrong_header(
 ) -> Result<(), AllocError> {
     push_column(text, columns, field.place)?;
     push_difference(text, columns, field, header)?;
-    push_text(text, "\n")?;
+    push!(text; "\n")?;
     push_both(text, columns, header.row)?;
     push_separator_line(text, header.row)
 }

@@ -1,8 +1,7 @@
 //! What the commands take that columns don't tell.
 
 use crate::policy::push_size;
-use crate::shown::push_text;
-use crate::wanted::push_years;
+use crate::shown::push;
 use std::alloc::AllocError;
 use wh_batch::{BatchKind, CommandKind};
 use wh_policy::{Attribute, Dim, Format, Policy};
@@ -16,10 +15,9 @@ fn push_attributes(text: &mut Vec<u8>, attributes: &[Attribute]) -> Result<(), A
     let [first, others @ ..] = attributes else {
         return Ok(());
     };
-    push_text(text, first.name.as_str())?;
+    push!(text; first.name.as_str())?;
     for attribute in others {
-        push_text(text, ", ")?;
-        push_text(text, attribute.name.as_str())?;
+        push!(text; ", ", attribute.name.as_str())?;
     }
     Ok(())
 }
@@ -27,10 +25,9 @@ fn push_attributes(text: &mut Vec<u8>, attributes: &[Attribute]) -> Result<(), A
 /// A line for each dimension: the attributes that have to stay.
 fn push_kept(text: &mut Vec<u8>, policy: &Policy) -> Result<(), AllocError> {
     for dim in [Dim::Product, Dim::Store, Dim::Customer] {
-        push_text(text, dim.word())?;
-        push_text(text, " keeps in their places: ")?;
+        push!(text; dim.word(), " keeps in their places: ")?;
         push_attributes(text, policy.attributes(dim))?;
-        push_text(text, "; more may follow\n")?;
+        push!(text; "; more may follow\n")?;
     }
     Ok(())
 }
@@ -39,9 +36,7 @@ fn push_kept(text: &mut Vec<u8>, policy: &Policy) -> Result<(), AllocError> {
 fn push_policy(text: &mut Vec<u8>, policy: &Policy) -> Result<(), AllocError> {
     push_size(text)?;
     push_kept(text, policy)?;
-    push_text(text, "the calendar keeps the years ")?;
-    push_years(text, policy.years)?;
-    push_text(text, "\n")
+    push!(text; "the calendar keeps the years ", policy.years, "\n")
 }
 
 /// What a command of this kind takes, where columns don't tell it.
@@ -53,11 +48,9 @@ pub(crate) fn push_kind(
 ) -> Result<(), AllocError> {
     match (kind, format) {
         (CommandKind::Migration, _) => push_policy(text, policy),
-        (CommandKind::Upgrade, Format::One) => push_text(text, "an upgrade takes no file\n"),
-        (CommandKind::Upgrade, Format::Two) => {
-            push_text(text, "the warehouse has format 2 already\n")
-        }
-        (CommandKind::Batch(BatchKind::Voids), Format::One) => push_text(text, NO_VOIDS),
+        (CommandKind::Upgrade, Format::One) => push!(text; "an upgrade takes no file\n"),
+        (CommandKind::Upgrade, Format::Two) => push!(text; "the warehouse has format 2 already\n"),
+        (CommandKind::Batch(BatchKind::Voids), Format::One) => push!(text; NO_VOIDS),
         _ => Ok(()),
     }
 }

@@ -1,25 +1,18 @@
 //! What is said of the lines of tickets for which a batch is refused.
 
 use crate::line::{Sold, Source, TracedLines};
-use crate::row::{push_line, push_more};
-use crate::shown::{push_number, push_text};
+use crate::row::{LineAt, push_more};
+use crate::shown::{Shown, push};
 use std::alloc::{AllocError, Global};
 use wh_batch::{RowPlace, row_places};
 
 /// The most lines that are listed.
 const MOST_LINES: u64 = 20;
 
-fn push_source(text: &mut Vec<u8>, source: &Source) -> Result<(), AllocError> {
-    push_text(text, "command ")?;
-    push_number(text, source.number)?;
-    push_text(text, ", ")?;
-    push_text(text, source.id.as_str())
-}
-
-/// By which command a line was withdrawn.
-fn push_withdrawn(text: &mut Vec<u8>, source: &Source) -> Result<(), AllocError> {
-    push_text(text, "withdrawn by ")?;
-    push_source(text, source)
+impl Shown for &Source {
+    fn push_to(self, text: &mut Vec<u8>) -> Result<(), AllocError> {
+        push!(text; "command ", self.number, ", ", self.id.as_str())
+    }
 }
 
 /// By which command, on which day and in which store a line was sold.
@@ -29,14 +22,13 @@ fn push_sale(
     lines: &TracedLines,
     sold: &Sold,
 ) -> Result<(), AllocError> {
-    push_text(text, "sold by ")?;
+    push!(text; "sold by ")?;
     if let Some(source) = lines.seller_of(sold) {
-        push_source(text, source)?;
+        push!(text; source)?;
     }
     let day = sold.day;
     let shown = format!(in alloc; ", on {day} in ")?;
-    push_text(text, shown.as_str())?;
-    push_text(text, sold.store.as_str())
+    push!(text; shown.as_str(), sold.store.as_str())
 }
 
 /// What is said of a line that is there already.
@@ -48,22 +40,20 @@ fn push_sold(
 ) -> Result<(), AllocError> {
     match lines.sale_of(place) {
         Some(sold) => push_sale(text, alloc, lines, sold)?,
-        None => push_text(text, "sold before")?,
+        None => push!(text; "sold before")?,
     }
     if let Some(source) = lines.withdrawer_of(place) {
-        push_text(text, "; ")?;
-        push_withdrawn(text, source)?;
+        push!(text; "; withdrawn by ", source)?;
     }
-    push_text(text, "; a line is sold once\n")
+    push!(text; "; a line is sold once\n")
 }
 
 /// What is said of a line that doesn't stand.
 fn push_missing(text: &mut Vec<u8>, lines: &TracedLines, place: usize) -> Result<(), AllocError> {
     match lines.withdrawer_of(place) {
-        Some(source) => push_withdrawn(text, source)?,
-        None => push_text(text, "never sold")?,
+        Some(source) => push!(text; "withdrawn by ", source, "\n"),
+        None => push!(text; "never sold\n"),
     }
-    push_text(text, "\n")
 }
 
 /// The ticket and the line in a place.
@@ -71,11 +61,7 @@ fn push_ticket(text: &mut Vec<u8>, lines: &TracedLines, place: usize) -> Result<
     let Some(line) = lines.line_at(place) else {
         return Ok(());
     };
-    push_text(text, ": ticket ")?;
-    push_text(text, line.ticket.as_str())?;
-    push_text(text, ", line ")?;
-    push_number(text, u64::from(line.line))?;
-    push_text(text, ": ")
+    push!(text; ": ticket ", line.ticket.as_str(), ", line ", u64::from(line.line), ": ")
 }
 
 /// The line of a file on which a record stands; the header stands before the records.
@@ -86,7 +72,7 @@ fn push_record_line(
     record: usize,
 ) -> Result<(), AllocError> {
     match rows.get(record.saturating_add(1)) {
-        Some(row) => push_line(text, file, row.start),
+        Some(row) => push!(text; LineAt(file, row.start)),
         None => Ok(()),
     }
 }
@@ -142,7 +128,5 @@ pub(crate) fn push_refused_lines(
     let Some(source) = lines.same_command() else {
         return Ok(());
     };
-    push_text(text, "the same bytes are ")?;
-    push_source(text, source)?;
-    push_text(text, "\n")
+    push!(text; "the same bytes are ", source, "\n")
 }

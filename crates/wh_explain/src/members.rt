@@ -1,6 +1,6 @@
 //! The members that a batch is the first to mention.
 
-use crate::shown::{push_number, push_text};
+use crate::shown::push;
 use std::alloc::AllocError;
 use wh_history::Edit;
 use wh_policy::Dim;
@@ -20,11 +20,9 @@ fn member_of(edit: &Edit<MemberRow, MemberKey>, dim: Dim) -> Option<&MemberRow> 
 /// What stands before a dimension's member with this number.
 fn push_before(text: &mut Vec<u8>, dim: Dim, number: u64) -> Result<(), AllocError> {
     if number > 0 {
-        return push_text(text, ", ");
+        return push!(text; ", ");
     }
-    push_text(text, "mentioned for the first time: ")?;
-    push_text(text, dim.word())?;
-    push_text(text, " ")
+    push!(text; "mentioned for the first time: ", dim.word(), " ")
 }
 
 /// The natural keys of a dimension's first members, and how many there are.
@@ -40,7 +38,7 @@ fn push_keys(
         };
         if found < MOST_MEMBERS {
             push_before(text, dim, found)?;
-            push_text(text, member.natural.as_str())?;
+            push!(text; member.natural.as_str())?;
         }
         found = found.saturating_add(1);
     }
@@ -55,14 +53,12 @@ fn push_members(
 ) -> Result<(), AllocError> {
     let found = push_keys(text, members, dim)?;
     if found > MOST_MEMBERS {
-        push_text(text, " and ")?;
-        push_number(text, found - MOST_MEMBERS)?;
-        push_text(text, " more")?;
+        push!(text; " and ", found - MOST_MEMBERS, " more")?;
     }
     if found == 0 {
         return Ok(());
     }
-    push_text(text, "\n")
+    push!(text; "\n")
 }
 
 /// A line for each dimension: the members whose rows are new.

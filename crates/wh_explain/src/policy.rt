@@ -2,34 +2,56 @@
 
 use crate::encoding::push_encoding_line;
 use crate::policy_place::push_policy_place;
-use crate::shown::{push_number, push_place, push_text};
-use crate::wanted::push_years;
+use crate::row::push_too_long;
+use crate::shown::{Counted, push};
 use std::alloc::{AllocError, Global};
-use wh_policy::{Attribute, Dim, POLICY_LIMIT, Policy, PolicyFault};
+use wh_day::VALUE_LIMIT;
+use wh_policy::{
+    Attribute, Dim, FIRST_YEAR, LAST_YEAR, MOST_ATTRIBUTES, MOST_YEARS, NAME_LIMIT, POLICY_LIMIT,
+    Policy, PolicyFault,
+};
+
+const MISSING: &str =
+    "wanted: first_year, last_year and at least one [[product]], [[store]] and [[customer]], each with name and type; a [[holiday]] with day and name\n";
+
+const KEYS: &str =
+    "the keys are first_year, last_year, product, store, customer and holiday, those of an attribute name and type, those of a holiday day and name\n";
+
+const NAME: &str =
+    " characters: a letter a to z, then letters a to z, digits or _; it is neither id nor day\n";
+
+const HOLIDAY: &str =
+    "a holiday's day is \"YYYY-MM-DD\" with quotes, within the years and on no other holiday's day, and its name has 1 to ";
+
+fn push_years_rule(text: &mut Vec<u8>) -> Result<(), AllocError> {
+    push!(text; "first_year and last_year are whole numbers from ", FIRST_YEAR, " to ", LAST_YEAR)?;
+    push!(text; " without quotes, the first not after the last, and at most ", MOST_YEARS, " years\n")
+}
 
 /// What is allowed where a policy has this fault.
-fn rule(fault: PolicyFault) -> &'static str {
+fn push_rule(text: &mut Vec<u8>, fault: PolicyFault) -> Result<(), AllocError> {
     match fault {
-        PolicyFault::NotToml => "a policy is a text in TOML",
-        PolicyFault::Missing => {
-            "wanted: first_year, last_year and at least one [[product]], [[store]] and [[customer]], each with name and type; a [[holiday]] with day and name"
+        PolicyFault::NotToml => push!(text; "a policy is a text in TOML\n"),
+        PolicyFault::Missing => push!(text; MISSING),
+        PolicyFault::UnknownKey => push!(text; KEYS),
+        PolicyFault::BadName => push!(text; "a name has 1 to ", NAME_LIMIT, NAME),
+        PolicyFault::BadType =>
+            push!(text; "a type is a whole number from 0 to 7, without quotes\n"),
+        PolicyFault::TooMany => {
+            push!(text; "a dimension has at most ", MOST_ATTRIBUTES, " attributes\n")
         }
-        PolicyFault::UnknownKey => {
-            "the keys are first_year, last_year, product, store, customer and holiday, those of an attribute name and type, those of a holiday day and name"
+        PolicyFault::NamedTwice => {
+            push!(text; "no two attributes of a dimension have the same name\n")
         }
-        PolicyFault::BadName => {
-            "a name has 1 to 24 characters: a letter a to z, then letters a to z, digits or _; it is neither id nor day"
+        PolicyFault::ProfileOutside => {
+            push!(text; "types 4 and 5 are for attributes of customer alone\n")
         }
-        PolicyFault::BadType => "a type is a whole number from 0 to 7, without quotes",
-        PolicyFault::TooMany => "a dimension has at most 6 attributes",
-        PolicyFault::NamedTwice => "no two attributes of a dimension have the same name",
-        PolicyFault::ProfileOutside => "types 4 and 5 are for attributes of customer alone",
-        PolicyFault::ProfileMixed => "customer has attributes of type 4 or of type 5, not of both",
-        PolicyFault::BadYears => {
-            "first_year and last_year are whole numbers from 1900 to 2199 without quotes, the first not after the last, and at most 30 years"
+        PolicyFault::ProfileMixed => {
+            push!(text; "customer has attributes of type 4 or of type 5, not of both\n")
         }
+        PolicyFault::BadYears => push_years_rule(text),
         PolicyFault::BadHoliday => {
-            "a holiday's day is \"YYYY-MM-DD\" with quotes, within the years and on no other holiday's day, and its name has 1 to 60 bytes and doesn't begin with ("
+            push!(text; HOLIDAY, VALUE_LIMIT, " bytes and doesn't begin with (\n")
         }
     }
 }
@@ -50,17 +72,14 @@ const FAULTS: [PolicyFault; 10] = [
 
 /// How big the file of a policy may be.
 pub(crate) fn push_size(text: &mut Vec<u8>) -> Result<(), AllocError> {
-    push_text(text, "a policy in TOML of at most ")?;
-    push_number(text, POLICY_LIMIT as u64)?;
-    push_text(text, " bytes\n")
+    push!(text; "a policy in TOML of at most ", POLICY_LIMIT, " bytes\n")
 }
 
 /// What any policy is: all rules.
 pub(crate) fn push_rules(text: &mut Vec<u8>) -> Result<(), AllocError> {
     push_size(text)?;
     for fault in FAULTS {
-        push_text(text, rule(fault))?;
-        push_text(text, "\n")?;
+        push_rule(text, fault)?;
     }
     Ok(())
 }
@@ -73,13 +92,10 @@ pub(crate) fn push_bad_policy(
     bytes: &[u8],
 ) -> Result<(), AllocError> {
     if bytes.len() > POLICY_LIMIT {
-        push_text(text, "the file has more than ")?;
-        push_number(text, POLICY_LIMIT as u64)?;
-        return push_text(text, " bytes, which is the most that is allowed\n");
+        return push_too_long(text, POLICY_LIMIT);
     }
     push_policy_place(text, alloc, bytes)?;
-    push_text(text, rule(fault))?;
-    push_text(text, "\n")?;
+    push_rule(text, fault)?;
     match fault {
         PolicyFault::NotToml => push_encoding_line(text, bytes, "TOML"),
         _ => Ok(()),
@@ -94,19 +110,11 @@ fn push_lost(
     kept: &Attribute,
     newer: &[Attribute],
 ) -> Result<(), AllocError> {
-    push_text(text, dim.word())?;
-    push_text(text, ": attribute ")?;
-    push_place(text, place)?;
-    push_text(text, " \"")?;
-    push_text(text, kept.name.as_str())?;
-    push_text(text, "\" has to stay in its place; ")?;
+    push!(text; dim.word(), ": attribute ", Counted(place), " \"", kept.name.as_str())?;
+    push!(text; "\" has to stay in its place; ")?;
     match newer.get(place) {
-        Some(found) => {
-            push_text(text, "\"")?;
-            push_text(text, found.name.as_str())?;
-            push_text(text, "\" stands there\n")
-        }
-        None => push_text(text, "nothing stands there\n"),
+        Some(found) => push!(text; "\"", found.name.as_str(), "\" stands there\n"),
+        None => push!(text; "nothing stands there\n"),
     }
 }
 
@@ -138,11 +146,7 @@ fn push_lost_years(text: &mut Vec<u8>, policy: &Policy, newer: &Policy) -> Resul
     if newer.years.first <= policy.years.first && policy.years.last <= newer.years.last {
         return Ok(());
     }
-    push_text(text, "the years ")?;
-    push_years(text, policy.years)?;
-    push_text(text, " have to stay; ")?;
-    push_years(text, newer.years)?;
-    push_text(text, " stand there\n")
+    push!(text; "the years ", policy.years, " have to stay; ", newer.years, " stand there\n")
 }
 
 /// The lines on what has to stay and doesn't, where a newer policy doesn't fit.

@@ -1,8 +1,8 @@
 //! Where in the text of a policy a fault stands, and what stands there.
 
 use crate::encoding::no_utf8_at;
-use crate::row::push_line;
-use crate::shown::{push_name, push_number, push_quoted, push_text};
+use crate::row::LineAt;
+use crate::shown::{Quoted, push, push_name};
 use std::alloc::{AllocError, Global};
 use toml::{Table, Value as TomlValue};
 use wh_day::ParseError;
@@ -24,33 +24,18 @@ fn value_at<'a>(policy: &'a Table, place: Place) -> Option<&'a TomlValue> {
     table_at(policy, place)?.get(place.key?)
 }
 
-fn push_integer(text: &mut Vec<u8>, alloc: Global, number: i64) -> Result<(), AllocError> {
-    let shown = format!(in alloc; "{number}")?;
-    push_text(text, shown.as_str())
-}
-
 /// What stands in a place.
-fn push_found(
-    text: &mut Vec<u8>,
-    alloc: Global,
-    found: Option<&TomlValue>,
-) -> Result<(), AllocError> {
+fn push_found(text: &mut Vec<u8>, found: Option<&TomlValue>) -> Result<(), AllocError> {
     match found {
         Some(TomlValue::String(string)) => {
-            push_text(text, ": the text ")?;
-            push_quoted(text, string.as_bytes())?;
+            push!(text; ": the text ", Quoted(string.as_bytes()), " stands there; ")
         }
         Some(TomlValue::Integer(number)) => {
-            push_text(text, ": the number ")?;
-            push_integer(text, alloc, *number)?;
+            push!(text; ": the number ", *number, " stands there; ")
         }
-        Some(other) => {
-            push_text(text, ": a TOML ")?;
-            push_text(text, other.type_str())?;
-        }
-        None => return push_text(text, " is missing; "),
+        Some(other) => push!(text; ": a TOML ", other.type_str(), " stands there; "),
+        None => push!(text; " is missing; "),
     }
-    push_text(text, " stands there; ")
 }
 
 /// What is wrong with a year; nothing is said of what is no whole number.
@@ -61,14 +46,10 @@ fn push_wrong_year(
 ) -> Result<(), AllocError> {
     let first = integer_in(policy.get("first_year"));
     match (integer_in(found), first) {
-        (Some(year), _) if year < FIRST_YEAR => push_text(text, "it is too early; "),
-        (Some(year), _) if year > LAST_YEAR => push_text(text, "it is too late; "),
-        (Some(year), Some(first)) if year < first => push_text(text, "it is before first_year; "),
-        (Some(_), _) => {
-            push_text(text, "that makes more than ")?;
-            push_number(text, MOST_YEARS as u64)?;
-            push_text(text, " years; ")
-        }
+        (Some(year), _) if year < FIRST_YEAR => push!(text; "it is too early; "),
+        (Some(year), _) if year > LAST_YEAR => push!(text; "it is too late; "),
+        (Some(year), Some(first)) if year < first => push!(text; "it is before first_year; "),
+        (Some(_), _) => push!(text; "that makes more than ", MOST_YEARS, " years; "),
         (None, _) => Ok(()),
     }
 }
@@ -80,15 +61,14 @@ fn integer_in(value: Option<&TomlValue>) -> Option<i64> {
 /// A key, and what stands there.
 fn push_key(
     text: &mut Vec<u8>,
-    alloc: Global,
     policy: &Table,
     fault: &PlacedFault,
     key: &str,
 ) -> Result<(), AllocError> {
     let found = value_at(policy, fault.place());
-    push_text(text, "key ")?;
+    push!(text; "key ")?;
     push_name(text, key)?;
-    push_found(text, alloc, found)?;
+    push_found(text, found)?;
     match fault.kind() {
         PolicyFault::BadYears => push_wrong_year(text, policy, found),
         _ => Ok(()),
@@ -97,29 +77,21 @@ fn push_key(
 
 /// An array, and which of its tables.
 fn push_array(text: &mut Vec<u8>, array: &str, number: usize) -> Result<(), AllocError> {
-    push_text(text, "[[")?;
-    push_text(text, array)?;
-    push_text(text, "]]")?;
+    push!(text; "[[", array, "]]")?;
     if number > 0 {
-        push_text(text, " number ")?;
-        push_number(text, number as u64)?;
+        push!(text; " number ", number)?;
     }
     Ok(())
 }
 
-fn push_place(
-    text: &mut Vec<u8>,
-    alloc: Global,
-    policy: &Table,
-    fault: &PlacedFault,
-) -> Result<(), AllocError> {
+fn push_place(text: &mut Vec<u8>, policy: &Table, fault: &PlacedFault) -> Result<(), AllocError> {
     let place = fault.place();
     if let Some(array) = place.array {
         push_array(text, array, place.number)?;
-        push_text(text, if place.key.is_some() { ", " } else { ": " })?;
+        push!(text; if place.key.is_some() { ", " } else { ": " })?;
     }
     match place.key {
-        Some(key) => push_key(text, alloc, policy, fault, key),
+        Some(key) => push_key(text, policy, fault, key),
         None => Ok(()),
     }
 }
@@ -134,16 +106,13 @@ fn push_syntax(
         Some(span) => span.start,
         None => return Ok(()),
     };
-    push_line(text, bytes, start)?;
-    push_text(text, ": ")?;
-    push_text(text, error.message())?;
-    push_text(text, "; ")
+    push!(text; LineAt(bytes, start), ": ", error.message(), "; ")
 }
 
 /// The line on which a file has the first byte that is no UTF-8.
 fn push_no_text(text: &mut Vec<u8>, bytes: &[u8]) -> Result<(), AllocError> {
-    push_line(text, bytes, no_utf8_at(bytes).unwrap_or(0))?;
-    push_text(text, ": no UTF-8; ")
+    let place = no_utf8_at(bytes).unwrap_or(0);
+    push!(text; LineAt(bytes, place), ": no UTF-8; ")
 }
 
 /// Where the fault of a policy stands, and what stands there, where that can be said.
@@ -162,7 +131,7 @@ pub(crate) fn push_policy_place(
     };
     match Policy::of_table(alloc, &table) {
         Ok(_) => Ok(()),
-        Err(ParseError::Fault(fault)) => push_place(text, alloc, &table, &fault),
+        Err(ParseError::Fault(fault)) => push_place(text, &table, &fault),
         Err(ParseError::Memory) => Err(AllocError),
     }
 }

@@ -4,8 +4,8 @@ use crate::code_pages::push_meanings;
 use crate::explanation::SentCommand;
 use crate::left_out::{LeftOut, SparseRecord};
 use crate::line::records_in;
-use crate::row::{push_column, push_line, push_more};
-use crate::shown::{push_place, push_quoted, push_text};
+use crate::row::{LineAt, push_column, push_more};
+use crate::shown::{Counted, Quoted, push};
 use std::alloc::{AllocError, Global};
 use wh_batch::{BatchKind, Column, CommandKind, Records, RowPlace, columns_of, row_places};
 use wh_day::Value;
@@ -29,7 +29,7 @@ impl SentRecords<'_> {
     /// The line on which the record with this number stands; the header has the number 0.
     fn push_line(&self, text: &mut Vec<u8>, number: u64) -> Result<(), AllocError> {
         match self.rows.get(number as usize) {
-            Some(row) => push_line(text, self.file, row.start),
+            Some(row) => push!(text; LineAt(self.file, row.start)),
             None => Ok(()),
         }
     }
@@ -37,7 +37,7 @@ impl SentRecords<'_> {
     /// The member of the record with this number.
     fn push_member(&self, text: &mut Vec<u8>, number: u64) -> Result<(), AllocError> {
         match self.records.get(number.saturating_sub(1) as usize) {
-            Some(record) => push_text(text, record.natural.as_str()),
+            Some(record) => push!(text; record.natural.as_str()),
             None => Ok(()),
         }
     }
@@ -64,12 +64,10 @@ fn push_control(
     place: usize,
 ) -> Result<(), AllocError> {
     sent.push_line(text, number)?;
-    push_text(text, ", ")?;
+    push!(text; ", ")?;
     push_column(text, sent.columns, slot.saturating_add(2))?;
-    push_quoted(text, value)?;
-    push_text(text, " has a control character at byte ")?;
-    push_place(text, place)?;
-    push_text(text, "; ")?;
+    let what = " has a control character at byte ";
+    push!(text; Quoted(value), what, Counted(place), "; ")?;
     push_meanings(
         text,
         value.get(place.saturating_add(1)).copied().unwrap_or(0),
@@ -92,7 +90,7 @@ fn push_controls_of(
         };
         if found < MOST_LISTED {
             push_control(text, sent, number, slot, value, place)?;
-            push_text(text, "\n")?;
+            push!(text; "\n")?;
         }
         found = found.saturating_add(1);
     }
@@ -129,8 +127,7 @@ fn push_taken(
     let mut before = ": ";
     for slot in 0..attributes.len() {
         if record.takes_away(slot, attributes[slot].kind) {
-            push_text(text, before)?;
-            push_text(text, attributes[slot].name.as_str())?;
+            push!(text; before, attributes[slot].name.as_str())?;
             before = ", ";
         }
     }
@@ -144,11 +141,11 @@ fn push_sparse(
     record: &SparseRecord,
 ) -> Result<(), AllocError> {
     sent.push_line(text, record.number)?;
-    push_text(text, ": ")?;
+    push!(text; ": ")?;
     sent.push_member(text, record.number)?;
-    push_text(text, ": empty, which replaces what was there by (none)")?;
+    push!(text; ": empty, which replaces what was there by (none)")?;
     push_taken(text, record, sent.attributes)?;
-    push_text(text, "\n")
+    push!(text; "\n")
 }
 
 /// The first records that take values away, and how many more there are.

@@ -4,7 +4,7 @@ use crate::batch::{Batch, push_faults};
 use crate::explanation::SentCommand;
 use crate::line_texts::push_refused_lines;
 use crate::policy::{push_bad_policy, push_unfit};
-use crate::shown::push_text;
+use crate::shown::push;
 use std::alloc::{AllocError, Global};
 use wh_admission::{Limit, Refusal};
 use wh_batch::{BatchKind, CommandKind, columns_of, faults};
@@ -62,15 +62,12 @@ fn push_lines(text: &mut Vec<u8>, alloc: Global, sent: &SentCommand) -> Result<(
 }
 
 fn push_full(text: &mut Vec<u8>, limit: Limit) -> Result<(), AllocError> {
-    push_text(text, "the limit stands in meta, as ")?;
-    push_text(
-        text,
-        match limit {
-            Limit::Commands => "commands_max\n",
-            Limit::Changes => "changes_max\n",
-            Limit::Facts => "facts_max\n",
-        },
-    )
+    let name = match limit {
+        Limit::Commands => "commands_max",
+        Limit::Changes => "changes_max",
+        Limit::Facts => "facts_max",
+    };
+    push!(text; "the limit stands in meta, as ", name, "\n")
 }
 
 /// The lines on a refusal, where there is more to say than its own line does.
@@ -86,11 +83,9 @@ pub(crate) fn push_refusal(
         (Refusal::NoLine(_), _) => push_lines(text, alloc, sent),
         (Refusal::Policy(fault), _) => push_bad_policy(text, alloc, *fault, sent.bytes),
         (Refusal::Unfit, _) => push_unfit_policy(text, alloc, sent),
-        (Refusal::Upgraded, _) => push_text(text, "the warehouse has format 2 already\n"),
-        (Refusal::NameTaken, _) => push_text(
-            text,
-            "a table, an index or a view of another program has the name fact2 or void\n",
-        ),
+        (Refusal::Upgraded, _) => push!(text; "the warehouse has format 2 already\n"),
+        (Refusal::NameTaken, _) =>
+            push!(text; "a table, an index or a view of another program has the name fact2 or void\n"),
         (Refusal::Full(limit), _) => push_full(text, *limit),
         _ => Ok(()),
     }

@@ -1,13 +1,23 @@
 //! Rows and columns of a file, as an explanation names and shows them.
 
-use crate::shown::{push_number, push_place, push_text};
+use crate::shown::{Counted, Shown, push};
 use std::alloc::AllocError;
 use wh_batch::{Column, lines_above};
 
-/// The beginning of what is said of the line of a file on which something begins.
-pub(crate) fn push_line(text: &mut Vec<u8>, file: &[u8], start: usize) -> Result<(), AllocError> {
-    push_text(text, "line ")?;
-    push_number(text, (lines_above(file, start) as u64).saturating_add(1))
+/// The line of a file on which something begins.
+#[derive(Drop)]
+pub(crate) struct LineAt<'a>(pub(crate) &'a [u8], pub(crate) usize);
+
+impl<'a> Shown for LineAt<'a> {
+    fn push_to(self, text: &mut Vec<u8>) -> Result<(), AllocError> {
+        push!(text; "line ", Counted(lines_above(self.0, self.1)))
+    }
+}
+
+/// What is said of a file with more bytes than are allowed.
+pub(crate) fn push_too_long(text: &mut Vec<u8>, most: usize) -> Result<(), AllocError> {
+    let what = " bytes, which is the most that is allowed\n";
+    push!(text; "the file has more than ", most, what)
 }
 
 /// How many more there are than those that are listed.
@@ -15,9 +25,7 @@ pub(crate) fn push_more(text: &mut Vec<u8>, more: u64) -> Result<(), AllocError>
     if more == 0 {
         return Ok(());
     }
-    push_text(text, "and ")?;
-    push_number(text, more)?;
-    push_text(text, " more\n")
+    push!(text; "and ", more, " more\n")
 }
 
 /// The beginning of what is said of a column.
@@ -26,14 +34,11 @@ pub(crate) fn push_column(
     columns: &[Column],
     place: usize,
 ) -> Result<(), AllocError> {
-    push_text(text, "column ")?;
-    push_place(text, place)?;
+    push!(text; "column ", Counted(place))?;
     if let Some(column) = columns.get(place) {
-        push_text(text, " \"")?;
-        push_text(text, column.name())?;
-        push_text(text, "\"")?;
+        push!(text; " \"", column.name(), "\"")?;
     }
-    push_text(text, ": ")
+    push!(text; ": ")
 }
 
 /// A row to the end of the line on which it begins.

@@ -1,4 +1,4 @@
-//! Numbers, and texts of a file, as an explanation shows them.
+//! Texts, numbers, and texts of a file, as an explanation shows them.
 
 ghost use Rattle.std.specs.Prelude.{◌≡◌, ◌++◌, OnOk};
 ghost use Rattle.std.specs.Fmt.{decimal};
@@ -21,13 +21,58 @@ pub fn push_number(text: &mut Vec<u8>, number: u64) -> Result<(), AllocError>
     text.extend_from_slice(Buffer::new().format(number).as_bytes())
 }
 
-pub(crate) fn push_text(text: &mut Vec<u8>, more: &str) -> Result<(), AllocError> {
-    text.extend_from_slice(more.as_bytes())
+/// Adds parts to a text, one after the other.
+macro_rules! push {
+    ($text:expr; $part:expr) => { $crate::shown::Shown::push_to($part, $text) };
+    ($text:expr; $part:expr, $($more:expr),+) => {{
+        $crate::shown::Shown::push_to($part, $text)?;
+        push!($text; $($more),+)
+    }};
 }
 
-/// A place, which the text counts from 1.
-pub(crate) fn push_place(text: &mut Vec<u8>, place: usize) -> Result<(), AllocError> {
-    push_number(text, (place as u64).saturating_add(1))
+pub(crate) use push;
+
+/// A part of a text.
+pub(crate) trait Shown {
+    /// Adds it to the text.
+    fn push_to(self, text: &mut Vec<u8>) -> Result<(), AllocError>;
+}
+
+impl Shown for &str {
+    fn push_to(self, text: &mut Vec<u8>) -> Result<(), AllocError> {
+        text.extend_from_slice(self.as_bytes())
+    }
+}
+
+impl Shown for u64 {
+    fn push_to(self, text: &mut Vec<u8>) -> Result<(), AllocError> {
+        push_number(text, self)
+    }
+}
+
+impl Shown for i64 {
+    fn push_to(self, text: &mut Vec<u8>) -> Result<(), AllocError> {
+        if self < 0 {
+            push!(text; "-")?;
+        }
+        push_number(text, self.unsigned_abs())
+    }
+}
+
+impl Shown for usize {
+    fn push_to(self, text: &mut Vec<u8>) -> Result<(), AllocError> {
+        push_number(text, self as u64)
+    }
+}
+
+/// A place that is counted from 0; a text counts from 1.
+#[derive(Drop)]
+pub(crate) struct Counted(pub(crate) usize);
+
+impl Shown for Counted {
+    fn push_to(self, text: &mut Vec<u8>) -> Result<(), AllocError> {
+        push_number(text, (self.0 as u64).saturating_add(1))
+    }
 }
 
 /// How many bytes the first character has. A byte that begins none counts as one.
@@ -70,12 +115,12 @@ pub(crate) fn push_hexadecimal(text: &mut Vec<u8>, byte: u8) -> Result<(), Alloc
 
 fn push_escaped(text: &mut Vec<u8>, byte: u8) -> Result<(), AllocError> {
     match byte {
-        b'\n' => push_text(text, "\\n"),
-        b'\r' => push_text(text, "\\r"),
-        b'\t' => push_text(text, "\\t"),
-        b'\\' => push_text(text, "\\\\"),
+        b'\n' => push!(text; "\\n"),
+        b'\r' => push!(text; "\\r"),
+        b'\t' => push!(text; "\\t"),
+        b'\\' => push!(text; "\\\\"),
         _ => {
-            push_text(text, "\\x")?;
+            push!(text; "\\x")?;
             push_hexadecimal(text, byte)
         }
     }
@@ -108,7 +153,7 @@ fn push_shown(text: &mut Vec<u8>, shown: &[u8], most: usize) -> Result<(), Alloc
     if left.is_empty() {
         return Ok(());
     }
-    push_text(text, " ..")
+    push!(text; " ..")
 }
 
 /// A header, as it stands.
@@ -118,21 +163,26 @@ pub(crate) fn push_header(text: &mut Vec<u8>, header: &[u8]) -> Result<(), Alloc
 
 /// A key of a policy, between quotes.
 pub(crate) fn push_name(text: &mut Vec<u8>, key: &str) -> Result<(), AllocError> {
-    push_text(text, "\"")?;
+    push!(text; "\"")?;
     push_shown(text, key.as_bytes(), FIELD_SHOWN)?;
-    push_text(text, "\"")
+    push!(text; "\"")
 }
 
 /// The text of a field or a line, between quotes.
-pub(crate) fn push_quoted(text: &mut Vec<u8>, field: &[u8]) -> Result<(), AllocError> {
-    push_text(text, "'")?;
-    push_shown(text, field, FIELD_SHOWN)?;
-    push_text(text, "'")
+#[derive(Drop)]
+pub(crate) struct Quoted<'a>(pub(crate) &'a [u8]);
+
+impl<'a> Shown for Quoted<'a> {
+    fn push_to(self, text: &mut Vec<u8>) -> Result<(), AllocError> {
+        push!(text; "'")?;
+        push_shown(text, self.0, FIELD_SHOWN)?;
+        push!(text; "'")
+    }
 }
 
 /// The first character of a text, between quotes.
 pub(crate) fn push_character(text: &mut Vec<u8>, field: &[u8]) -> Result<(), AllocError> {
-    push_text(text, "'")?;
+    push!(text; "'")?;
     push_first(text, field)?;
-    push_text(text, "'")
+    push!(text; "'")
 }

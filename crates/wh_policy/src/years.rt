@@ -20,12 +20,10 @@ pub const LAST_YEAR: i64 = 2199;
 pub const MOST_YEARS: i64 = 30;
 
 /// The key at fault: that of the first year where it is none, else that of the last.
-fn place_of(first: &Value) -> Place<'static> {
+fn wrong_key(first: &Value) -> &'static str {
     match first.as_integer() {
-        Some(first) if FIRST_YEAR <= first && first <= LAST_YEAR => Place::of_file().at(
-            "last_year",
-        ),
-        _ => Place::of_file().at("first_year"),
+        Some(first) if FIRST_YEAR <= first && first <= LAST_YEAR => "last_year",
+        _ => "first_year",
     }
 }
 
@@ -48,6 +46,10 @@ pub(crate) fn years_of<'a>(
                 last: last as u16,
             })
         }
-        _ => Err(place_of(first).fault(PolicyFault::BadYears)),
+        _ => Err(
+            Place::of_file()
+                .at(wrong_key(first))
+                .fault(PolicyFault::BadYears),
+        ),
     }
 }
