@@ -1,11 +1,13 @@
 -- Steps of the loops over columns.
-use Rattle.std.proofs.Common.{◌≡◌, ℕ, suc, ◌-◌, ◌<◌, List, [], ◌∷◌, ◌++◌, length, replicate, get_or, refl, sym, ◌∙◌, ap, append_assoc, length-append, arith}
+use Rattle.std.proofs.Common.{◌≡◌, ℕ, suc, ◌-◌, ◌<◌, cond, List, [], ◌∷◌, ◌++◌, length, replicate, get_or, refl, sym, ◌∙◌, ap, append_assoc, length-append, arith}
+use Rattle.wh_policy.specs.Types.{rule, shows_first_day}
 use Rattle.wh_policy.specs.declared.attribute.AttributeType.{AttributeType}
-use Rattle.wh_policy.specs.declared.attribute.AttributeType.TheVariants.{RetainOriginal, Overwrite, NewRow, NewAttribute, MiniDimension, MiniDimensionOutrigger, NewRowAndOverwrite, DualKeys}
+use Rattle.wh_policy.specs.declared.type_rule.MainColumn.{MainColumn}
+use Rattle.wh_policy.specs.declared.type_rule.MainColumn.TheVariants as main
 use Rattle.wh_history.specs.Slots.{six, padded, columns_from}
-use Rattle.wh_history.specs.Dated.{dated, at}
-use Rattle.wh_history.specs.Rows.{main_column}
-use Rattle.wh_history.specs.Rendering.{steady_column, shown_column}
+use Rattle.wh_history.specs.Dated.{dated, at, said}
+use Rattle.wh_history.specs.Rows.{main_text, main_column}
+use Rattle.wh_history.specs.Rendering.{steady_text, steady_column, shown_column}
 use Rattle.wh_history.specs.declared.member.Change.{Change}
 
 -- one text more leaves less to fill
@@ -23,15 +25,15 @@ get_behind [] back text = refl
 get_behind (t ∷ front) back text = get_behind front back text
 
 -- the shared texts and the change in force make the column a
+shown_as : (changes : List Change) (start place : ℕ) (column : MainColumn) (steady : List (List ℕ)) → get_or steady place [] ≡ steady_text changes place column
+    → cond (shows_first_day column) (said place (at start (dated changes))) (get_or steady place []) ≡ main_text changes start place column
+shown_as changes start place main.Original steady is = is
+shown_as changes start place main.FirstDay steady is = refl
+shown_as changes start place main.Latest steady is = is
+shown_as changes start place main.Nothing steady is = is
+
 shown_is : (changes : List Change) (start place : ℕ) (kind : AttributeType) (steady : List (List ℕ)) → get_or steady place [] ≡ steady_column changes place kind → shown_column steady (at start (dated changes)) place kind ≡ main_column changes start place kind
-shown_is changes start place RetainOriginal steady is = is
-shown_is changes start place Overwrite steady is = is
-shown_is changes start place NewRow steady is = refl
-shown_is changes start place NewAttribute steady is = is
-shown_is changes start place MiniDimension steady is = is
-shown_is changes start place MiniDimensionOutrigger steady is = is
-shown_is changes start place NewRowAndOverwrite steady is = refl
-shown_is changes start place DualKeys steady is = refl
+shown_is changes start place kind steady is = shown_as changes start place (rule kind).main steady is
 
 shown_from : (changes : List Change) (start place : ℕ) (front : List (List ℕ)) (kinds : List AttributeType) → length front ≡ place
     → columns_from (shown_column (front ++ columns_from (steady_column changes) place kinds) (at start (dated changes))) place kinds ≡ columns_from (main_column changes start) place kinds

@@ -3,14 +3,15 @@ use Rattle.std.proofs.Common.{◌≡◌, ℕ, zero, suc, ◌+◌, ◌<◌, ◌�
 use Rattle.std.specs.Prelude.{slice_get, find}
 use Rattle.std.proofs.lemmas.Bool.{cases_lt}
 use Rattle.std.proofs.lemmas.Bool.Decides.{nat_tests}
-use Rattle.wh_policy.specs.Types.{is_tracked}
+use Rattle.wh_policy.specs.Types.{rule, shows_first_day, is_tracked}
 use Rattle.wh_history.specs.Slots.{slot, columns_from, picked, picks}
 use Rattle.wh_history.specs.Dated.{dated, in_force, at, value_at, said}
-use Rattle.wh_history.specs.Rows.{starts, later_starts, same_tracked, spans, row, rows, holds, main_column}
+use Rattle.wh_history.specs.Rows.{starts, later_starts, same_tracked, spans, row, rows, holds, main_text, main_column}
 use Rattle.wh_day.specs.Day.{last_day}
 use Rattle.wh_history.specs.Profiles.{profile_now}
 use Rattle.wh_policy.specs.declared.attribute.AttributeType.{AttributeType}
-use Rattle.wh_policy.specs.declared.attribute.AttributeType.TheVariants.{RetainOriginal, Overwrite, NewRow, NewAttribute, MiniDimension, MiniDimensionOutrigger, NewRowAndOverwrite, DualKeys}
+use Rattle.wh_policy.specs.declared.type_rule.MainColumn.{MainColumn}
+use Rattle.wh_policy.specs.declared.type_rule.MainColumn.TheVariants as main
 use Rattle.wh_history.specs.declared.member.Change.{Change}
 use Rattle.wh_history.specs.declared.member.Member.{Member}
 use Rattle.wh_history.specs.declared.rows.DimRow.{DimRow}
@@ -100,15 +101,11 @@ span_found kinds number m p r from (next ∷ more) h =
       | false ↦ λ fails e. let rest = span_found kinds number m p r next more e in (rest.0, inr rest.1, rest.2, rest.3)
     ] refl h
 
-tracked_shows : (changes : List Change) (start place : ℕ) (kind : AttributeType) → is_tracked kind ≡ true → main_column changes start place kind ≡ value_at start place changes
-tracked_shows changes start place RetainOriginal h = cc
-tracked_shows changes start place Overwrite h = cc
-tracked_shows changes start place NewRow h = refl
-tracked_shows changes start place NewAttribute h = cc
-tracked_shows changes start place MiniDimension h = cc
-tracked_shows changes start place MiniDimensionOutrigger h = cc
-tracked_shows changes start place NewRowAndOverwrite h = refl
-tracked_shows changes start place DualKeys h = refl
+first_day_shows : (changes : List Change) (start place : ℕ) (column : MainColumn) → shows_first_day column ≡ true → main_text changes start place column ≡ value_at start place changes
+first_day_shows changes start place main.Original h = cc
+first_day_shows changes start place main.FirstDay h = refl
+first_day_shows changes start place main.Latest h = cc
+first_day_shows changes start place main.Nothing h = cc
 
 same_value : (kinds : List AttributeType) (h : List Change) (day : ℕ) (s : ℕ × ℕ) (place : ℕ) (kind : AttributeType) → InOrder h → InSpans s first_day (starts kinds h) → s.0 ≤ day → day ≤ s.1 → slice_get kinds place ≡ Some kind → is_tracked kind ≡ true → said place (at day h) ≡ said place (at s.0 h)
 same_value kinds [] day s place kind up here after before is counts = refl
@@ -134,5 +131,5 @@ shows_the_day kinds combinations m day r place kind ends found is counts =
     let shown = get_column (main_column m.changes s.0) kinds 0 place kind (replicate (6 - length columns) []) is in
     let zero_left : 0 + place ≡ place = omega arith in
     let value : main_column m.changes s.0 place kind ≡ value_at day place m.changes =
-    tracked_shows m.changes s.0 place kind counts ∙ sym (same_value kinds (dated m.changes) day s place kind (InOrder-dated m.changes ends) span.1 after before is counts) in
+    first_day_shows m.changes s.0 place (rule kind).main counts ∙ sym (same_value kinds (dated m.changes) day s place kind (InOrder-dated m.changes ends) span.1 after before is counts) in
     ap (λ (q : DimRow). slice_get q.a place) span.2 ∙ shown ∙ ap (λ n. Some (main_column m.changes s.0 n kind)) zero_left ∙ ap Some value

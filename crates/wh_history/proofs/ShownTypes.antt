@@ -3,7 +3,7 @@ use Rattle.std.proofs.Common.{◌≡◌, ℕ, zero, suc, ◌+◌, ◌-◌, lengt
 use Rattle.std.specs.Prelude.{slice_get, unwrap_or}
 use Rattle.wh_day.specs.Day.{first_day}
 use Rattle.wh_policy.specs.declared.attribute.AttributeType.{AttributeType}
-use Rattle.wh_policy.specs.declared.attribute.AttributeType.TheVariants.{RetainOriginal, Overwrite, NewRow, NewAttribute, MiniDimension, MiniDimensionOutrigger, NewRowAndOverwrite, DualKeys}
+use Rattle.wh_policy.specs.declared.attribute.AttributeType.TheVariants.{RetainOriginal}
 use Rattle.wh_history.specs.Dated.{dated, newest}
 use Rattle.wh_history.specs.Keys.{at_place}
 use Rattle.wh_history.specs.Laws.{Shows, ShowsByType, RowsShowTheirTypes, RowsNameTheNewestProfile}
@@ -38,13 +38,7 @@ module _ (kinds : List AttributeType) (profile : ℕ) (m : Member) (s : ℕ × �
 
 by_type : (m : Member) (r : DimRow) (place : ℕ) (kind : AttributeType) → Shows r place (main_column m.changes r.from_day place kind) (second_column m.changes place kind) → ShowsByType m r place kind
 by_type m r place RetainOriginal shows = shows
-by_type m r place Overwrite shows = shows
-by_type m r place NewRow shows = shows
-by_type m r place NewAttribute shows = shows
-by_type m r place MiniDimension shows = shows
-by_type m r place MiniDimensionOutrigger shows = shows
-by_type m r place NewRowAndOverwrite shows = shows
-by_type m r place DualKeys shows = shows
+by_type m r place _ shows = shows
 
 pub rows_show_their_types : RowsShowTheirTypes
 rows_show_their_types kinds combinations m number r place kind at is =

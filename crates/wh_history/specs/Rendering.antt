@@ -1,8 +1,9 @@
 -- How the rows of a member are made from what they share.
 use Rattle.std.specs.Prelude.{◌≡◌, ℕ, if◌then◌else◌, List, [], Option, slice_index_or}
-use Rattle.wh_policy.specs.Types.{is_tracked}
+use Rattle.wh_policy.specs.Types.{rule, is_tracked}
 use Rattle.wh_policy.specs.declared.attribute.AttributeType.{AttributeType}
-use Rattle.wh_policy.specs.declared.attribute.AttributeType.TheVariants.{RetainOriginal, Overwrite, NewRow, NewAttribute, MiniDimension, MiniDimensionOutrigger, NewRowAndOverwrite, DualKeys}
+use Rattle.wh_policy.specs.declared.type_rule.MainColumn.{MainColumn}
+use Rattle.wh_policy.specs.declared.type_rule.MainColumn.TheVariants as main
 use Rattle.wh_history.specs.Slots.{columns_from, six}
 use Rattle.wh_history.specs.Dated.{dated, at, said, latest, original}
 use Rattle.wh_history.specs.Rows.{second_column, start_key}
@@ -10,15 +11,14 @@ use Rattle.wh_history.specs.declared.member.Change.{Change}
 use Rattle.wh_history.specs.declared.member.Member.{Member}
 
 -- what each row of a member shows in the column a, in a slot that isn't tracked
+abbrev pub steady_text : List Change → ℕ → MainColumn → List ℕ
+steady_text changes place main.Original = original place changes
+steady_text changes place main.FirstDay = []
+steady_text changes place main.Latest = latest place changes
+steady_text changes place main.Nothing = []
+
 abbrev pub steady_column : List Change → ℕ → AttributeType → List ℕ
-steady_column changes place RetainOriginal = original place changes
-steady_column changes place Overwrite = latest place changes
-steady_column changes place NewRow = []
-steady_column changes place NewAttribute = latest place changes
-steady_column changes place MiniDimension = []
-steady_column changes place MiniDimensionOutrigger = []
-steady_column changes place NewRowAndOverwrite = []
-steady_column changes place DualKeys = []
+steady_column changes place kind = steady_text changes place (rule kind).main
 
 -- a slot of the column a: in a tracked slot what the change in force says, else the text that all rows share
 abbrev pub shown_column : List (List ℕ) → Option Change → ℕ → AttributeType → List ℕ

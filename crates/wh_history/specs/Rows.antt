@@ -1,9 +1,12 @@
 -- The rows of a member.
 use Rattle.std.specs.Prelude.{ℕ, Bool, if◌then◌else◌, ◌==◌, ◌&&◌, nat_le, List, [], ◌∷◌, map, Option, option_map, unwrap_or}
 use Rattle.wh_day.specs.Day.{first_day, last_day, day_before}
-use Rattle.wh_policy.specs.Types.{is_tracked}
+use Rattle.wh_policy.specs.Types.{rule, is_tracked}
 use Rattle.wh_policy.specs.declared.attribute.AttributeType.{AttributeType}
-use Rattle.wh_policy.specs.declared.attribute.AttributeType.TheVariants.{RetainOriginal, Overwrite, NewRow, NewAttribute, MiniDimension, MiniDimensionOutrigger, NewRowAndOverwrite, DualKeys}
+use Rattle.wh_policy.specs.declared.type_rule.MainColumn.{MainColumn}
+use Rattle.wh_policy.specs.declared.type_rule.MainColumn.TheVariants as main
+use Rattle.wh_policy.specs.declared.type_rule.SecondColumn.{SecondColumn}
+use Rattle.wh_policy.specs.declared.type_rule.SecondColumn.TheVariants as second
 use Rattle.wh_history.specs.Slots.{columns_from, picks, six, are_same}
 use Rattle.wh_history.specs.Dated.{dated, at, value_at, latest, original, prior}
 use Rattle.wh_history.specs.Profiles.{profile_number, profile_now_by}
@@ -31,26 +34,23 @@ spans from [] = (from, last_day) ∷ []
 spans from (next ∷ more) = (from, day_before next) ∷ spans next more
 
 -- what a row that begins at that day shows of a slot in the column a
+abbrev pub main_text : List Change → ℕ → ℕ → MainColumn → List ℕ
+main_text changes start place main.Original = original place changes
+main_text changes start place main.FirstDay = value_at start place changes
+main_text changes start place main.Latest = latest place changes
+main_text changes start place main.Nothing = []
+
 abbrev pub main_column : List Change → ℕ → ℕ → AttributeType → List ℕ
-main_column changes start place RetainOriginal = original place changes
-main_column changes start place Overwrite = latest place changes
-main_column changes start place NewRow = value_at start place changes
-main_column changes start place NewAttribute = latest place changes
-main_column changes start place MiniDimension = []
-main_column changes start place MiniDimensionOutrigger = []
-main_column changes start place NewRowAndOverwrite = value_at start place changes
-main_column changes start place DualKeys = value_at start place changes
+main_column changes start place kind = main_text changes start place (rule kind).main
 
 -- and in the column b
+abbrev pub second_text : List Change → ℕ → SecondColumn → List ℕ
+second_text changes place second.Nothing = []
+second_text changes place second.Prior = prior place changes
+second_text changes place second.Latest = latest place changes
+
 abbrev pub second_column : List Change → ℕ → AttributeType → List ℕ
-second_column changes place RetainOriginal = []
-second_column changes place Overwrite = []
-second_column changes place NewRow = []
-second_column changes place NewAttribute = prior place changes
-second_column changes place MiniDimension = []
-second_column changes place MiniDimensionOutrigger = []
-second_column changes place NewRowAndOverwrite = latest place changes
-second_column changes place DualKeys = []
+second_column changes place kind = second_text changes place (rule kind).second
 
 -- the number of a start: that of the opening, or of the change of its day
 abbrev pub start_key : Member → ℕ → ℕ

@@ -5,7 +5,7 @@ use Rattle.std.specs.Option.{option_and_then}
 use Rattle.std.specs.List.{range_with_len}
 use Rattle.wh_day.specs.Value.{unknown_text, no_card_text}
 use Rattle.wh_history.specs.Keys.{at_place}
-use Rattle.wh_policy.specs.Types.{is_profile}
+use Rattle.wh_policy.specs.Types.{rule, is_profile}
 use Rattle.wh_history.specs.Slots.{columns_from, six}
 use Rattle.wh_history.specs.Dated.{dated, at}
 use Rattle.wh_day.specs.Day.{first_day, last_day}
@@ -21,7 +21,10 @@ use Rattle.wh_policy.specs.declared.record.SaleRecord.{SaleRecord}
 use Rattle.wh_policy.specs.declared.attribute.Dim.{Dim}
 use Rattle.wh_policy.specs.declared.attribute.Dim.TheVariants.{Product, Store, Customer}
 use Rattle.wh_policy.specs.declared.attribute.AttributeType.{AttributeType}
-use Rattle.wh_policy.specs.declared.attribute.AttributeType.TheVariants.{RetainOriginal, Overwrite, NewRow, NewAttribute, MiniDimension, MiniDimensionOutrigger, NewRowAndOverwrite, DualKeys}
+use Rattle.wh_policy.specs.declared.type_rule.MainColumn.{MainColumn}
+use Rattle.wh_policy.specs.declared.type_rule.MainColumn.TheVariants as main
+use Rattle.wh_policy.specs.declared.type_rule.SecondColumn.{SecondColumn}
+use Rattle.wh_policy.specs.declared.type_rule.SecondColumn.TheVariants as second
 use Rattle.wh_history.specs.declared.rows.DimRow.{DimRow}
 use Rattle.wh_history.specs.declared.facts.Fact.{Fact}
 
@@ -75,19 +78,23 @@ change_row commands number place = option_and_then (λ c. change_row_in commands
 abbrev pub member_rows : List Accepted → Dim → List ℕ → List DimRow
 member_rows commands dim natural = rows (types_in dim commands) (profiles_of commands) (member_of dim commands natural)
 
--- what the row of sales without a card shows
+-- what the row of sales without a card shows: no card, where other rows show something
+abbrev pub no_card_in_main : MainColumn → List ℕ
+no_card_in_main main.Original = no_card_text
+no_card_in_main main.FirstDay = no_card_text
+no_card_in_main main.Latest = no_card_text
+no_card_in_main main.Nothing = []
+
 abbrev pub no_card_main : ℕ → AttributeType → List ℕ
-no_card_main place kind = if is_profile kind then [] else no_card_text
+no_card_main place kind = no_card_in_main (rule kind).main
+
+abbrev pub no_card_in_second : SecondColumn → List ℕ
+no_card_in_second second.Nothing = []
+no_card_in_second second.Prior = no_card_text
+no_card_in_second second.Latest = no_card_text
 
 abbrev pub no_card_second : ℕ → AttributeType → List ℕ
-no_card_second place RetainOriginal = []
-no_card_second place Overwrite = []
-no_card_second place NewRow = []
-no_card_second place NewAttribute = no_card_text
-no_card_second place MiniDimension = []
-no_card_second place MiniDimensionOutrigger = []
-no_card_second place NewRowAndOverwrite = no_card_text
-no_card_second place DualKeys = []
+no_card_second place kind = no_card_in_second (rule kind).second
 
 abbrev pub no_card_row : List AttributeType → DimRow
 no_card_row kinds = record {

@@ -18,7 +18,7 @@ use crate::rows::DimRow;
 use crate::slots::fill_columns;
 use std::alloc::{AllocError, Global};
 use wh_day::{Day, Value, Values};
-use wh_policy::AttributeType;
+use wh_policy::{AttributeType, MainColumn, SecondColumn};
 
 /// What a member's columns are made from.
 #[derive(Drop)]
@@ -83,12 +83,10 @@ fn steady_column(
     requires { map (λ c. c.now) history.now.dated.now ≡ dated history.now.changes.now }
     ensures { IfOk result (λ t. t ≡ steady_column history.now.changes.now place kind) }
 {
-    match kind {
-        AttributeType::RetainOriginal => original(alloc, history.changes, place),
-        AttributeType::Overwrite | AttributeType::NewAttribute => {
-            said(alloc, newest(history.dated), place)
-        }
-        _ => Ok(Value::empty(alloc)),
+    match kind.rule().main {
+        MainColumn::Original => original(alloc, history.changes, place),
+        MainColumn::Latest => said(alloc, newest(history.dated), place),
+        MainColumn::FirstDay | MainColumn::Nothing => Ok(Value::empty(alloc)),
     }
 }
 
@@ -102,13 +100,13 @@ fn second_column(
     requires { map (λ c. c.now) history.now.dated.now ≡ dated history.now.changes.now }
     ensures { IfOk result (λ t. t ≡ second_column history.now.changes.now place kind) }
 {
-    match kind {
-        AttributeType::NewAttribute => {
+    match kind.rule().second {
+        SecondColumn::Nothing => Ok(Value::empty(alloc)),
+        SecondColumn::Prior => {
             let latest = said(alloc, newest(history.dated), place)?;
             last_other_than(alloc, history.dated, place, &latest)
         }
-        AttributeType::NewRowAndOverwrite => said(alloc, newest(history.dated), place),
-        _ => Ok(Value::empty(alloc)),
+        SecondColumn::Latest => said(alloc, newest(history.dated), place),
     }
 }
 

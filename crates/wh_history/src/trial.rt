@@ -19,7 +19,7 @@ use crate::slots::fill_columns;
 use crate::touched::{MemberSource, TouchedMembers, touch_all};
 use std::alloc::{AllocError, Global};
 use wh_day::{Day, ParseError, Value, Values};
-use wh_policy::{AttributeType, Dim, DimensionRecord, Policy};
+use wh_policy::{AttributeType, Dim, DimensionRecord, MainColumn, Policy, SecondColumn};
 
 /// A warehouse that holds no member yet.
 struct NothingStored;
@@ -80,10 +80,9 @@ fn profiles_in(
 fn no_card_main(alloc: Global, kind: AttributeType) -> Result<Value, AllocError>
     ensures { IfOk result (λ t. t ≡ no_card_main zero kind) }
 {
-    if kind.is_profile() {
-        Ok(Value::empty(alloc))
-    } else {
-        Value::no_card(alloc)
+    match kind.rule().main {
+        MainColumn::Original | MainColumn::FirstDay | MainColumn::Latest => Value::no_card(alloc),
+        MainColumn::Nothing => Ok(Value::empty(alloc)),
     }
 }
 
@@ -91,9 +90,9 @@ fn no_card_main(alloc: Global, kind: AttributeType) -> Result<Value, AllocError>
 fn no_card_second(alloc: Global, kind: AttributeType) -> Result<Value, AllocError>
     ensures { IfOk result (λ t. t ≡ no_card_second zero kind) }
 {
-    match kind {
-        AttributeType::NewAttribute | AttributeType::NewRowAndOverwrite => Value::no_card(alloc),
-        _ => Ok(Value::empty(alloc)),
+    match kind.rule().second {
+        SecondColumn::Nothing => Ok(Value::empty(alloc)),
+        SecondColumn::Prior | SecondColumn::Latest => Value::no_card(alloc),
     }
 }
 
