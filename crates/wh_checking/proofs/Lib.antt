@@ -1,6 +1,7 @@
 pub mod SameValues
 pub mod Comparing
 pub mod ListedTables
+pub mod ComparedTables
 pub mod ListedMaps
 pub mod MadeMeta
 pub mod Judging

@@ -3,19 +3,11 @@ use Rattle.std.specs.Prelude.{◌≡◌, ◌≢◌, Bool, true, false, bytes_eq}
 use Rattle.std.specs.Cmp.Lexicographic.{pointwise}
 use Rattle.std.specs.Ordering.{int_eq}
 use Rattle.sqlite_value.specs.declared.value.Value.{Value}
-use Rattle.sqlite_value.specs.declared.value.Value.TheVariants.{Null, Int, Real, Text, Blob}
+use Rattle.sqlite_value.specs.declared.value.Value.TheVariants.{Int, Text, Blob}
 use Rattle.sqlite.specs.Order.{Row}
 use Rattle.wh_rows.specs.Holds.{Layout}
 
--- an integer, a text or a blob
-abbrev pub is_plain : Value → Bool
-is_plain Null = false
-is_plain (Int n) = true
-is_plain (Real x) = false
-is_plain (Text t) = true
-is_plain (Blob b) = true
-
--- two of these are the same
+-- two integers, texts or blobs are the same
 abbrev pub same_value : Value → Value → Bool
 same_value (Int m) (Int n) = int_eq m n
 same_value (Text s) (Text t) = bytes_eq s t

@@ -1,20 +1,13 @@
 //! Whether two rows of a table stand alike in its columns.
 
-ghost use Rattle.std.specs.Prelude.{◌≡◌, true, IsTrue, IfOk};
-ghost use Rattle.std.specs.List.{list_all};
+ghost use Rattle.std.specs.Prelude.{◌≡◌, IfOk};
 ghost use Rattle.sqlite_value.specs.Value.{owned};
 ghost use Rattle.sqlite.specs.Values.{bound};
-ghost use Rattle.wh_checking.specs.Alike.{is_plain, same_value, same_values, AreAlike};
+ghost use Rattle.wh_checking.specs.Alike.{same_value, same_values, AreAlike};
 
 use sqlite::types::ValueRef;
 use std::alloc::{AllocError, Global};
-use wh_rows::tables;
 use wh_store::PagedTable;
-
-/// A table whose columns hold integers, texts and blobs alone.
-pub(crate) trait Plain: PagedTable {
-    ghost plain: { (row : Self.Row) → IsTrue (list_all is_plain (Self.StoredTable.layout.encode row)) };
-}
 
 /// Whether two values are the same integer, text or blob.
 fn same_value(a: ValueRef<'_>, b: ValueRef<'_>) -> bool
@@ -40,7 +33,7 @@ fn same_values(a: &[ValueRef<'_>], b: &[ValueRef<'_>]) -> bool
 }
 
 /// A row as the parameters of a statement. Only a lack of memory refuses a valid row.
-fn row_values<T: Plain>(alloc: Global, row: &T::Row) -> Result<Vec<ValueRef<'_>>, AllocError>
+fn row_values<T: PagedTable>(alloc: Global, row: &T::Row) -> Result<Vec<ValueRef<'_>>, AllocError>
     ensures { IfOk result (λ values. bound values.items ≡ T.StoredTable.layout.encode row.now) }
 {
     match T::row(alloc, row) {
@@ -50,82 +43,14 @@ fn row_values<T: Plain>(alloc: Global, row: &T::Row) -> Result<Vec<ValueRef<'_>>
 }
 
 /// Whether two rows stand alike in the columns.
-pub(crate) fn are_alike<T: Plain>(alloc: Global, a: &T::Row, b: &T::Row) -> Result<bool, AllocError>
+pub(crate) fn are_alike<T: PagedTable>(
+    alloc: Global,
+    a: &T::Row,
+    b: &T::Row,
+) -> Result<bool, AllocError>
     ensures { IfOk result (λ same. AreAlike T.StoredTable.layout a.now b.now same) }
 {
     let first = row_values::<T>(alloc, a)?;
     let second = row_values::<T>(alloc, b)?;
     Ok(same_values(&first, &second))
-}
-
-impl Plain for tables::Meta {
-    ghost use Rattle.std.specs.Prelude.{refl};
-
-    ghost plain = { λ row. refl };
-}
-
-impl Plain for tables::Command {
-    ghost use Rattle.std.specs.Prelude.{refl};
-
-    ghost plain = { λ row. refl };
-}
-
-impl Plain for tables::Member {
-    ghost use Rattle.std.specs.Prelude.{refl};
-
-    ghost plain = { λ row. refl };
-}
-
-impl Plain for tables::Change {
-    ghost use Rattle.std.specs.Prelude.{refl};
-
-    ghost plain = { λ row. refl };
-}
-
-impl Plain for tables::Product {
-    ghost use Rattle.std.specs.Prelude.{refl};
-
-    ghost plain = { λ row. refl };
-}
-
-impl Plain for tables::Store {
-    ghost use Rattle.std.specs.Prelude.{refl};
-
-    ghost plain = { λ row. refl };
-}
-
-impl Plain for tables::Customer {
-    ghost use Rattle.std.specs.Prelude.{refl};
-
-    ghost plain = { λ row. refl };
-}
-
-impl Plain for tables::Profile {
-    ghost use Rattle.std.specs.Prelude.{refl};
-
-    ghost plain = { λ row. refl };
-}
-
-impl Plain for tables::Calendar {
-    ghost use Rattle.std.specs.Prelude.{refl};
-
-    ghost plain = { λ row. refl };
-}
-
-impl Plain for tables::Fact {
-    ghost use Rattle.std.specs.Prelude.{refl};
-
-    ghost plain = { λ row. refl };
-}
-
-impl Plain for tables::Fact2 {
-    ghost use Rattle.std.specs.Prelude.{refl};
-
-    ghost plain = { λ row. refl };
-}
-
-impl Plain for tables::Void {
-    ghost use Rattle.std.specs.Prelude.{refl};
-
-    ghost plain = { λ row. refl };
 }

@@ -21,11 +21,34 @@ use sqlite::Alter;
 use std::alloc::Global;
 use wh_engine::{Engine, Fault};
 use wh_policy::Format;
-use wh_rows::{Table, tables};
-use wh_store::{ReadFault, Tables};
+use wh_rows::Table;
+use wh_sql::{TableVisitor, for_table};
+use wh_store::{PagedTable, ReadFault, Tables};
 
 /// How many tables are judged by themselves before the others: meta and the commands.
 const JUDGED_FIRST: usize = 2;
+
+/// Compares a table of a format with its twin in the second warehouse.
+struct HoldsTheSame {
+    format: Format,
+}
+
+impl<S: Alter, M: Alter> TableVisitor<Tables<S>, Tables<M>> for HoldsTheSame {
+    ghost use Rattle.wh_checking.specs.Compared.{IsCompared};
+
+    type Output = Result<bool, ReadFault>;
+
+    ghost promises = { λ table of it old new before after result. IsCompared S.Store M.Store it.format table of old new before after result };
+
+    fn visit<T: PagedTable>(
+        &self,
+        alloc: Global,
+        tables: &mut Tables<S>,
+        replica: &mut Tables<M>,
+    ) -> Result<bool, ReadFault> {
+        holds_the_same::<T, S, M>(tables, alloc, self.format, replica)
+    }
+}
 
 /// Whether a table stores what the commands define whose tables the second warehouse holds, both of this format.
 fn is_defined_in<S: Alter, M: Alter>(
@@ -40,20 +63,13 @@ fn is_defined_in<S: Alter, M: Alter>(
     ensures defined { WhenStored S.Store tables.old tables.new (λ stored. Covers stored.format format → (limits : LimitCounts) (commands : List Accepted) → format ≡ format_of commands → HoldsAll M.Store limits commands replica.old → IfOk result (IsDefinedIn limits commands (stored_in format stored) table)) }
     ensures damaged { WhenStored S.Store tables.old tables.new (λ stored. IfErr result (IsOfDamageIn (stored_in format stored) table)) }
 {
-    match table {
-        Table::Meta => holds_the_same::<tables::Meta, S, M>(tables, alloc, format, replica),
-        Table::Command => holds_the_same::<tables::Command, S, M>(tables, alloc, format, replica),
-        Table::Member => holds_the_same::<tables::Member, S, M>(tables, alloc, format, replica),
-        Table::Change => holds_the_same::<tables::Change, S, M>(tables, alloc, format, replica),
-        Table::Product => holds_the_same::<tables::Product, S, M>(tables, alloc, format, replica),
-        Table::Store => holds_the_same::<tables::Store, S, M>(tables, alloc, format, replica),
-        Table::Customer => holds_the_same::<tables::Customer, S, M>(tables, alloc, format, replica),
-        Table::Profile => holds_the_same::<tables::Profile, S, M>(tables, alloc, format, replica),
-        Table::Calendar => holds_the_same::<tables::Calendar, S, M>(tables, alloc, format, replica),
-        Table::Fact => holds_the_same::<tables::Fact, S, M>(tables, alloc, format, replica),
-        Table::Fact2 => holds_the_same::<tables::Fact2, S, M>(tables, alloc, format, replica),
-        Table::Void => holds_the_same::<tables::Void, S, M>(tables, alloc, format, replica),
-    }
+    for_table::<Tables<S>, Tables<M>, HoldsTheSame>(
+        table,
+        &HoldsTheSame { format },
+        alloc,
+        tables,
+        replica,
+    )
 }
 
 /// The first table after the commands that isn't what they define.

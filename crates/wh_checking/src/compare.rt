@@ -11,14 +11,14 @@ ghost use Rattle.wh_store.specs.Scan.{rows_left, HandsOut};
 ghost use Rattle.wh_admission.specs.Checked.{stored_in};
 ghost use Rattle.wh_checking.specs.Compared.{IsNext, IsEnd, AreRowsOrNot};
 
-use crate::alike::{Plain, are_alike};
+use crate::alike::are_alike;
 use sqlite::Alter;
 use std::alloc::{AllocError, Global};
 use wh_policy::Format;
-use wh_store::{Cursor, ReadFault, Tables, next_row};
+use wh_store::{Cursor, PagedTable, ReadFault, Tables, next_row};
 
 /// The next row of the second warehouse.
-fn next_expected<T: Plain, M: Alter>(
+fn next_expected<T: PagedTable, M: Alter>(
     expected: &mut Tables<M>,
     alloc: Global,
     format: Format,
@@ -35,7 +35,7 @@ fn next_expected<T: Plain, M: Alter>(
 }
 
 /// Whether the next row of the second warehouse stands in the same columns as this one.
-fn is_next<T: Plain, M: Alter>(
+fn is_next<T: PagedTable, M: Alter>(
     expected: &mut Tables<M>,
     alloc: Global,
     format: Format,
@@ -53,7 +53,7 @@ fn is_next<T: Plain, M: Alter>(
 }
 
 /// Whether the second warehouse has no further row.
-fn is_end<T: Plain, M: Alter>(
+fn is_end<T: PagedTable, M: Alter>(
     expected: &mut Tables<M>,
     alloc: Global,
     format: Format,
@@ -68,7 +68,7 @@ fn is_end<T: Plain, M: Alter>(
 
 /// Whether a table that the format has stores what the same table of the second warehouse holds, and nothing else. Both are read a part at a time,
 /// what is stored to its end, so that a damaged row is met wherever it stands.
-pub(crate) fn has_the_same_rows<T: Plain, S: Alter, M: Alter>(
+pub(crate) fn has_the_same_rows<T: PagedTable, S: Alter, M: Alter>(
     tables: &mut Tables<S>,
     alloc: Global,
     format: Format,
@@ -104,7 +104,7 @@ pub(crate) fn has_the_same_rows<T: Plain, S: Alter, M: Alter>(
 
 /// Whether a table of a format stores what the same table of the second warehouse holds, and nothing else. A table that the format hasn't is empty,
 /// whatever stands under its name. `Damaged`: the table stores a damaged row. `Memory` and `Store`: as reading has them.
-pub(crate) fn holds_the_same<T: Plain, S: Alter, M: Alter>(
+pub(crate) fn holds_the_same<T: PagedTable, S: Alter, M: Alter>(
     tables: &mut Tables<S>,
     alloc: Global,
     format: Format,

@@ -1,5 +1,6 @@
 pub mod RunLemmas
 pub mod LineLemmas
+pub mod PlanKeys
 pub mod RoomLemmas
 pub mod InputLemmas
 pub mod OutputLemmas

@@ -21,6 +21,7 @@ pub mod Reports
 pub mod Worked
 pub mod Outputs
 pub mod Parts
+pub mod ColumnTitles
 pub mod EngineReading
 pub mod HandedRows
 pub mod Arranged

@@ -12,7 +12,7 @@ use Rattle.wh_rows.specs.Holds.{Layout}
 use Rattle.wh_rows.specs.Rows as row
 use Rattle.wh_rows.specs.Tables.{Tables}
 use Rattle.wh_rows.specs.declared.table.Table.{Table}
-use Rattle.wh_rows.specs.declared.table.Table.TheVariants.{Meta, Command, Member, Change, Product, Store, Customer, Profile, Calendar, Fact, Fact2, Void}
+use Rattle.wh_sql.specs.Described.{described}
 
 -- what stands in a column: a number in decimal, a text as it is, and two hexadecimal digits for each of some bytes. No row has another value
 abbrev pub value_field : Value → List ℕ
@@ -51,18 +51,7 @@ dimension_text = table_text row.product
 
 -- the lines of one of the tables
 abbrev pub lines_of_table : Table → Tables → List (List ℕ)
-lines_of_table Meta t = table_lines row.meta (values t.meta)
-lines_of_table Command t = table_lines row.command (values t.command)
-lines_of_table Member t = table_lines row.member (values t.member)
-lines_of_table Change t = table_lines row.change (values t.change)
-lines_of_table Product t = table_lines row.product (values t.product)
-lines_of_table Store t = table_lines row.store (values t.store)
-lines_of_table Customer t = table_lines row.customer (values t.customer)
-lines_of_table Profile t = table_lines row.profile (values t.profile)
-lines_of_table Calendar t = table_lines row.calendar (values t.calendar)
-lines_of_table Fact t = table_lines row.fact (values t.fact)
-lines_of_table Fact2 t = table_lines row.fact2 (values t.fact2)
-lines_of_table Void t = table_lines row.void (values t.void)
+lines_of_table table t = table_lines (described table).layout (values ((described table).rows t))
 
 abbrev pub text_of_table : Table → Tables → List ℕ
 text_of_table table t = concat (lines_of_table table t)

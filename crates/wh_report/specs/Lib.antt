@@ -15,6 +15,7 @@ pub mod KeySums
 pub mod Defined
 pub mod Dump
 pub mod Dumped
+pub mod Fields
 pub mod Output
 pub mod CsvBuffer
 pub mod Reported

@@ -7,13 +7,14 @@ ghost use Rattle.wh_report.specs.Dump.{header_line, row_line};
 ghost use Rattle.wh_report.specs.Output.{IsOutWhole, IsOutBefore, IsOfNoTable, of_warehouse};
 ghost use Rattle.wh_report.specs.CsvBuffer.{AreMade, Gathers};
 
+use crate::fields::{column_names, put_row};
 use crate::output::{ReportFault, write_whole};
-use crate::table_texts::DumpedTable;
-use csv::{StringRecord, Writer, WriterBuilder};
+use csv::{ByteRecord, StringRecord, Writer, WriterBuilder};
 use std::alloc::{AllocError, Global};
 use std::io::Write;
 use std::mem;
 use wh_engine::Fault;
+use wh_store::KeyedTable;
 
 /// How many bytes of lines go out together.
 const FULL: usize = 24 * 1024;
@@ -22,16 +23,16 @@ const FULL: usize = 24 * 1024;
 /// makes them, since one for which memory ran out may leave a piece there.
 #[derive(Drop)]
 pub struct CsvBuffer {
-    fields: StringRecord,
+    fields: ByteRecord,
     made: Writer<Vec<u8>>,
     lines: Vec<u8>,
 }
 
 /// Makes the line of these fields, after those that were made. Over a buffer in memory `csv` fails only where memory runs out.
-fn gather_line(made: &mut Writer<Vec<u8>>, fields: &StringRecord) -> Result<(), AllocError>
+fn gather_line(made: &mut Writer<Vec<u8>>, fields: &ByteRecord) -> Result<(), AllocError>
     ensures { OnOk result ((text : List ℕ) → AreMade made.old text → AreMade made.new (text ++ row_text default_writer (fields_of fields.now))) }
 {
-    match made.write_byte_record(fields.as_byte_record()) {
+    match made.write_byte_record(fields) {
         Ok(()) => Ok(()),
         Err(_) => Err(AllocError),
     }
@@ -65,7 +66,7 @@ impl CsvBuffer {
         ensures { Gathers result [] }
     {
         CsvBuffer {
-            fields: StringRecord::new(alloc),
+            fields: ByteRecord::new(alloc),
             made: WriterBuilder::new().from_writer(Vec::new(alloc)),
             lines: Vec::new(alloc),
         }
@@ -85,20 +86,20 @@ impl CsvBuffer {
     pub fn add_fields(&mut self, fields: StringRecord) -> Result<(), AllocError>
         ensures { OnOk result ((text : List ℕ) → Gathers self.old text → Gathers self.new (text ++ row_text default_writer (fields_of fields))) }
     {
-        self.fields = fields;
+        self.fields = fields.into_byte_record();
         self.add()
     }
 
     /// Adds the line of the columns' names.
-    pub(crate) fn add_names<T: DumpedTable>(&mut self, alloc: Global) -> Result<(), AllocError>
+    pub(crate) fn add_names<T: KeyedTable>(&mut self, alloc: Global) -> Result<(), AllocError>
         ensures { OnOk result ((text : List ℕ) → Gathers self.old text → Gathers self.new (text ++ header_line T.layout)) }
     {
-        self.fields = T::columns(alloc)?;
+        self.fields = column_names::<T>(alloc)?;
         self.add()
     }
 
     /// Adds the line of a row. Where memory runs out for it, those before are there still.
-    pub(crate) fn add_row<T: DumpedTable>(
+    pub(crate) fn add_row<T: KeyedTable>(
         &mut self,
         alloc: Global,
         row: &T::Row,
@@ -106,7 +107,7 @@ impl CsvBuffer {
         ensures added { OnOk result ((text : List ℕ) → Gathers self.old text → Gathers self.new (text ++ row_line T.layout row.now)) }
         ensures kept { OnErr result (self.new.lines.items ≡ self.old.lines.items) }
     {
-        T::fields(alloc, row, &mut self.fields)?;
+        put_row::<T>(alloc, row, &mut self.fields)?;
         self.add()
     }
 

@@ -13,17 +13,17 @@ ghost use Rattle.wh_report.specs.declared.output.ReportFault.TheVariants as repo
 
 use crate::csv_buffer::CsvBuffer;
 use crate::output::ReportFault;
-use crate::table_texts::DumpedTable;
 use sqlite::Alter;
 use std::alloc::{AllocError, Global};
 use std::io::Write;
 use wh_engine::{Engine, Fault};
-use wh_rows::{Table, tables};
-use wh_store::{Cursor, PagedTable};
+use wh_rows::Table;
+use wh_sql::{TableVisitor, for_table};
+use wh_store::{Cursor, KeyedTable, PagedTable};
 
 /// Adds the line of a row to those that are gathered, and writes them out where they are many enough. Where memory runs out
 /// for the line, those before it go out.
-fn write_row<T: DumpedTable, W: Write>(
+fn write_row<T: KeyedTable, W: Write>(
     alloc: Global,
     row: &T::Row,
     part: &mut CsvBuffer,
@@ -41,7 +41,7 @@ fn write_row<T: DumpedTable, W: Write>(
 
 /// Writes what is gathered, the line of the columns' names, and the lines of all rows. `Memory`: also where they are more than
 /// can be counted.
-fn write_rows<T: DumpedTable + PagedTable, S: Alter, W: Write>(
+fn write_rows<T: PagedTable, S: Alter, W: Write>(
     alloc: Global,
     engine: &mut Engine<S>,
     part: &mut CsvBuffer,
@@ -70,7 +70,7 @@ fn write_rows<T: DumpedTable + PagedTable, S: Alter, W: Write>(
 /// warehouse the lines of some first rows went out, the header at least, unless memory ran out before; no clause says that
 /// all rows before the fault did. Nothing went out where no row was asked for yet.
 #[tactic(auto, using(crate::proofs::EngineReading::unread_memory))]
-pub fn write_table<T: DumpedTable + PagedTable, S: Alter, W: Write>(
+pub fn write_table<T: PagedTable, S: Alter, W: Write>(
     alloc: Global,
     engine: &mut Engine<S>,
     out: &mut W,
@@ -92,6 +92,26 @@ pub fn write_table<T: DumpedTable + PagedTable, S: Alter, W: Write>(
     write_rows::<T, S, W>(alloc, engine, &mut part, out)
 }
 
+/// Writes the text of a table out.
+struct WritesOut;
+
+impl<S: Alter, W: Write> TableVisitor<Engine<S>, W> for WritesOut {
+    ghost use Rattle.wh_report.specs.Dumped.{IsWrittenOut};
+
+    type Output = Result<(), ReportFault>;
+
+    ghost promises = { λ table of _ old new out written result. IsWrittenOut S.Store table of old new (W.contents out) (W.contents written) result };
+
+    fn visit<T: PagedTable>(
+        &self,
+        alloc: Global,
+        engine: &mut Engine<S>,
+        out: &mut W,
+    ) -> Result<(), ReportFault> {
+        write_table::<T, S, W>(alloc, engine, out)
+    }
+}
+
 /// Writes the text of any of the tables, as `write_table` does. `Write`: the writer failed. `Warehouse`: the tables can't be read. `Unwritten`: both.
 pub fn dump<S: Alter, W: Write>(
     alloc: Global,
@@ -107,18 +127,5 @@ pub fn dump<S: Alter, W: Write>(
     ensures only { result ≡ Err (report.Warehouse faults.Reopen) → IsTrue engine.old.session.must_reopen }
     ensures kinds { IfErr result IsOfDump }
 {
-    match table {
-        Table::Meta => write_table::<tables::Meta, S, W>(alloc, engine, out),
-        Table::Command => write_table::<tables::Command, S, W>(alloc, engine, out),
-        Table::Member => write_table::<tables::Member, S, W>(alloc, engine, out),
-        Table::Change => write_table::<tables::Change, S, W>(alloc, engine, out),
-        Table::Product => write_table::<tables::Product, S, W>(alloc, engine, out),
-        Table::Store => write_table::<tables::Store, S, W>(alloc, engine, out),
-        Table::Customer => write_table::<tables::Customer, S, W>(alloc, engine, out),
-        Table::Profile => write_table::<tables::Profile, S, W>(alloc, engine, out),
-        Table::Calendar => write_table::<tables::Calendar, S, W>(alloc, engine, out),
-        Table::Fact => write_table::<tables::Fact, S, W>(alloc, engine, out),
-        Table::Fact2 => write_table::<tables::Fact2, S, W>(alloc, engine, out),
-        Table::Void => write_table::<tables::Void, S, W>(alloc, engine, out),
-    }
+    for_table::<Engine<S>, W, WritesOut>(table, &WritesOut, alloc, engine, out)
 }

@@ -3,6 +3,8 @@ pub mod Reads
 pub mod Present
 pub mod Asked
 pub mod Page
+pub mod Described
+pub mod Values
 pub mod Tally
 pub mod LinkedTally
 pub mod Facts

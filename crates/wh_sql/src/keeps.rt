@@ -1,6 +1,7 @@
 //! What the tables have in common: rows that stand at keys.
 
-ghost use Rattle.std.specs.Prelude.{◌≡◌, ◌≢◌, Bool, [], true, false, IfOk, IfErr};
+ghost use Rattle.std.specs.Prelude.{◌≡◌, ◌≢◌, Bool, [], true, false, IsTrue, IfOk, IfErr};
+ghost use Rattle.std.specs.List.{list_all};
 ghost use Rattle.std.specs.Ordering.{eq_by_cmp};
 ghost use Rattle.sqlite_value.specs.declared.value.Value.TheVariants.{Int};
 ghost use Rattle.wh_rows.specs.Types.{is_number};
@@ -16,6 +17,7 @@ ghost use Rattle.wh_policy.specs.declared.format.Format.{Format};
 ghost use Rattle.wh_rows.specs.Names.{is_there};
 ghost use Rattle.wh_rows.specs.Schema.{schema_in};
 ghost use Rattle.wh_rows.specs.Meaning.{Means, PutsOne, RemovesOne, ReadsSome, CountsAll};
+ghost use Rattle.wh_sql.specs.Values.{is_plain};
 
 use sqlite::types::ValueRef;
 use std::alloc::Global;
@@ -94,4 +96,7 @@ pub trait KeyedTable: StoredTable {
     ghost harmed: { (stored : Stored) → HasDamage Self.layout (stored.rows name) → HasDamageIn stored name };
 
     ghost placed: { IsPlaced Self.layout Self.rows Self.with_rows (is_there name) };
+
+    // Its columns hold integers, texts and blobs alone.
+    ghost plain: { (row : Self.Row) → IsTrue (list_all is_plain (Self.layout.encode row)) };
 }

@@ -1,12 +1,15 @@
-//! The tables: the texts that show a part of them, and the keys of their rows.
+//! The tables: the texts that show a part of them, and the keys of their rows. And each of them by its name.
+
+ghost use Rattle.wh_sql.specs.Described.{described};
 
 use crate::scanned::{PagedTable, PartStatements};
-use std::alloc::AllocError;
+use crate::visitor::TableVisitor;
+use std::alloc::{AllocError, Global};
 use wh_day::{DateRow, Day, Value};
 use wh_history::{DimRow, Fact};
 use wh_rows::{
-    ChangeKey, ChangeRow, CommandRow, LineKey, MemberKey, MemberRow, MetaRow, ProfileRow, VoidRow,
-    tables,
+    ChangeKey, ChangeRow, CommandRow, LineKey, MemberKey, MemberRow, MetaRow, ProfileRow, Table,
+    VoidRow, tables,
 };
 
 impl PagedTable for tables::Meta {
@@ -336,5 +339,31 @@ impl PagedTable for tables::Void {
             ticket,
             line: row.line,
         })
+    }
+}
+
+/// Has a visitor do with the table of a name what it does with any.
+pub fn for_table<A, B, V: TableVisitor<A, B>>(
+    table: Table,
+    visitor: &V,
+    alloc: Global,
+    first: &mut A,
+    second: &mut B,
+) -> V::Output
+    ensures { V.promises table (described table) visitor.now first.old first.new second.old second.new result }
+{
+    match table {
+        Table::Meta => visitor.visit::<tables::Meta>(alloc, first, second),
+        Table::Command => visitor.visit::<tables::Command>(alloc, first, second),
+        Table::Member => visitor.visit::<tables::Member>(alloc, first, second),
+        Table::Change => visitor.visit::<tables::Change>(alloc, first, second),
+        Table::Product => visitor.visit::<tables::Product>(alloc, first, second),
+        Table::Store => visitor.visit::<tables::Store>(alloc, first, second),
+        Table::Customer => visitor.visit::<tables::Customer>(alloc, first, second),
+        Table::Profile => visitor.visit::<tables::Profile>(alloc, first, second),
+        Table::Calendar => visitor.visit::<tables::Calendar>(alloc, first, second),
+        Table::Fact => visitor.visit::<tables::Fact>(alloc, first, second),
+        Table::Fact2 => visitor.visit::<tables::Fact2>(alloc, first, second),
+        Table::Void => visitor.visit::<tables::Void>(alloc, first, second),
     }
 }

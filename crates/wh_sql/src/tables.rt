@@ -73,6 +73,8 @@ impl KeyedTable for tables::Meta {
     ghost harmed = { λ stored damage. damage };
 
     ghost placed = { place };
+
+    ghost plain = { λ row. refl };
 }
 
 impl KeyedTable for tables::Command {
@@ -136,6 +138,8 @@ impl KeyedTable for tables::Command {
     ghost harmed = { λ stored damage. damage };
 
     ghost placed = { place };
+
+    ghost plain = { λ row. refl };
 }
 
 impl KeyedTable for tables::Member {
@@ -199,6 +203,8 @@ impl KeyedTable for tables::Member {
     ghost harmed = { λ stored damage. damage };
 
     ghost placed = { place };
+
+    ghost plain = { λ row. refl };
 }
 
 impl KeyedTable for tables::Change {
@@ -262,6 +268,8 @@ impl KeyedTable for tables::Change {
     ghost harmed = { λ stored damage. damage };
 
     ghost placed = { place };
+
+    ghost plain = { λ row. refl };
 }
 
 impl KeyedTable for tables::Product {
@@ -325,6 +333,8 @@ impl KeyedTable for tables::Product {
     ghost harmed = { λ stored damage. damage };
 
     ghost placed = { place };
+
+    ghost plain = { λ row. refl };
 }
 
 impl KeyedTable for tables::Store {
@@ -388,6 +398,8 @@ impl KeyedTable for tables::Store {
     ghost harmed = { λ stored damage. damage };
 
     ghost placed = { place };
+
+    ghost plain = { λ row. refl };
 }
 
 impl KeyedTable for tables::Customer {
@@ -451,6 +463,8 @@ impl KeyedTable for tables::Customer {
     ghost harmed = { λ stored damage. damage };
 
     ghost placed = { place };
+
+    ghost plain = { λ row. refl };
 }
 
 impl KeyedTable for tables::Profile {
@@ -514,6 +528,8 @@ impl KeyedTable for tables::Profile {
     ghost harmed = { λ stored damage. damage };
 
     ghost placed = { place };
+
+    ghost plain = { λ row. refl };
 }
 
 impl KeyedTable for tables::Calendar {
@@ -577,6 +593,8 @@ impl KeyedTable for tables::Calendar {
     ghost harmed = { λ stored damage. damage };
 
     ghost placed = { place };
+
+    ghost plain = { λ row. refl };
 }
 
 impl KeyedTable for tables::Fact {
@@ -640,6 +658,8 @@ impl KeyedTable for tables::Fact {
     ghost harmed = { λ stored damage. damage };
 
     ghost placed = { place };
+
+    ghost plain = { λ row. refl };
 }
 
 impl KeyedTable for tables::Fact2 {
@@ -703,6 +723,8 @@ impl KeyedTable for tables::Fact2 {
     ghost harmed = { λ stored damage. damage };
 
     ghost placed = { place };
+
+    ghost plain = { λ row. refl };
 }
 
 impl KeyedTable for tables::Void {
@@ -766,4 +788,6 @@ impl KeyedTable for tables::Void {
     ghost harmed = { λ stored damage. damage };
 
     ghost placed = { place };
+
+    ghost plain = { λ row. refl };
 }
