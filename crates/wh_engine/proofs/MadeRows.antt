@@ -14,13 +14,16 @@ use Rattle.wh_day.specs.Value.{none_text, unknown_text, no_card_text}
 use Rattle.wh_day.specs.declared.calendar.DateRow.{DateRow}
 use Rattle.wh_day.specs.declared.holiday.Holiday.{Holiday}
 use Rattle.wh_policy.specs.Policy.{policy_types}
-use Rattle.wh_policy.specs.Types.{is_profile}
+use Rattle.wh_policy.specs.Types.{rule, is_profile}
 use Rattle.wh_policy.specs.declared.attribute.AttributeType.{AttributeType}
-use Rattle.wh_policy.specs.declared.attribute.AttributeType.TheVariants.{RetainOriginal, Overwrite, NewRow, NewAttribute, MiniDimension, MiniDimensionOutrigger, NewRowAndOverwrite, DualKeys}
+use Rattle.wh_policy.specs.declared.type_rule.MainColumn.{MainColumn}
+use Rattle.wh_policy.specs.declared.type_rule.MainColumn.TheVariants as main
+use Rattle.wh_policy.specs.declared.type_rule.SecondColumn.{SecondColumn}
+use Rattle.wh_policy.specs.declared.type_rule.SecondColumn.TheVariants as second
 use Rattle.wh_policy.specs.declared.attribute.Dim.TheVariants.{Customer}
 use Rattle.wh_policy.specs.declared.policy.Policy.{Policy}
 use Rattle.wh_history.specs.Slots.{columns_from, six}
-use Rattle.wh_history.specs.Tables.{no_card_main, no_card_second, no_card_row}
+use Rattle.wh_history.specs.Tables.{no_card_in_main, no_card_main, no_card_in_second, no_card_second, no_card_row}
 use Rattle.wh_history.proofs.Basics.{some_is}
 use Rattle.wh_rows.specs.Rows as row
 use Rattle.wh_rows.specs.Types.{is_special, is_slot, are_slots}
@@ -83,15 +86,16 @@ slot_either : (b : Bool) (text other : List ℕ) → is_slot text ≡ true → i
 slot_either true text other is other_is = is
 slot_either false text other is other_is = other_is
 
-slot_second : (place : ℕ) (kind : AttributeType) → is_slot (no_card_second place kind) ≡ true
-slot_second place RetainOriginal = slot_empty
-slot_second place Overwrite = slot_empty
-slot_second place NewRow = slot_empty
-slot_second place NewAttribute = slot_no_card
-slot_second place MiniDimension = slot_empty
-slot_second place MiniDimensionOutrigger = slot_empty
-slot_second place NewRowAndOverwrite = slot_no_card
-slot_second place DualKeys = slot_empty
+slot_in_main : (column : MainColumn) → is_slot (no_card_in_main column) ≡ true
+slot_in_main main.Original = slot_no_card
+slot_in_main main.FirstDay = slot_no_card
+slot_in_main main.Latest = slot_no_card
+slot_in_main main.Nothing = slot_empty
+
+slot_in_second : (column : SecondColumn) → is_slot (no_card_in_second column) ≡ true
+slot_in_second second.Nothing = slot_empty
+slot_in_second second.Prior = slot_no_card
+slot_in_second second.Latest = slot_no_card
 
 -- ---- profile and customer
 
@@ -109,7 +113,7 @@ card_frame a b is_a is_b = rw (is_a, is_b) refl
 no_card_valid : (kinds : List AttributeType) → length kinds ≤ 6 → row.customer.is_valid (no_card_row kinds) ≡ true
 no_card_valid kinds few =
     card_frame (six (columns_from no_card_main 0 kinds)) (six (columns_from no_card_second 0 kinds))
-    (columns_filled no_card_main (λ place kind. slot_either (is_profile kind) [] no_card_text slot_empty slot_no_card) kinds few) (columns_filled no_card_second slot_second kinds few)
+    (columns_filled no_card_main (λ place kind. slot_in_main (rule kind).main) kinds few) (columns_filled no_card_second (λ place kind. slot_in_second (rule kind).second) kinds few)
 
 -- ---- calendar
 

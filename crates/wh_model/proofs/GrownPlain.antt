@@ -5,26 +5,25 @@ use Rattle.std.specs.List.{list_any}
 use Rattle.std.proofs.lemmas.List.Elements.{All-weaker, All-map}
 use Rattle.std.proofs.lemmas.List.Folds.{list_any_none}
 use Rattle.wh_policy.specs.Policy.{policy_attributes, policy_types}
-use Rattle.wh_policy.specs.Types.{is_profile, is_outrigger}
+use Rattle.wh_policy.specs.Types.{rule, is_part, shows_newest, is_profile, is_outrigger}
 use Rattle.wh_policy.specs.Written.{IsSound}
 use Rattle.wh_policy.specs.declared.policy.Policy.{Policy}
 use Rattle.wh_policy.specs.declared.attribute.Attribute.{Attribute}
 use Rattle.wh_policy.specs.declared.attribute.AttributeType.{AttributeType}
-use Rattle.wh_policy.specs.declared.attribute.AttributeType.TheVariants.{RetainOriginal, Overwrite, NewRow, NewAttribute, MiniDimension, MiniDimensionOutrigger, NewRowAndOverwrite, DualKeys}
+use Rattle.wh_policy.specs.declared.type_rule.ProfilePart.{ProfilePart}
+use Rattle.wh_policy.specs.declared.type_rule.ProfilePart.TheVariants.{NoPart, Part, PartAndNewest}
 use Rattle.wh_policy.specs.declared.attribute.Dim.{Dim}
 use Rattle.wh_policy.specs.declared.attribute.Dim.TheVariants.{Product, Store, Customer}
 use Rattle.wh_history.specs.Accepted.{policy_after}
 use Rattle.wh_model.specs.Laws.{SoundPoliciesShowNone}
 
+part_outside : (part : ProfilePart) → (IsTrue (is_part part) → ⊥) → shows_newest part ≡ false
+part_outside NoPart h = refl
+part_outside Part h = refl
+part_outside PartAndNewest h = absurd (h refl)
+
 outside : (kind : AttributeType) → (IsTrue (is_profile kind) → ⊥) → is_outrigger kind ≡ false
-outside RetainOriginal h = refl
-outside Overwrite h = refl
-outside NewRow h = refl
-outside NewAttribute h = refl
-outside MiniDimension h = refl
-outside MiniDimensionOutrigger h = absurd (h refl)
-outside NewRowAndOverwrite h = refl
-outside DualKeys h = refl
+outside kind h = part_outside (rule kind).profile h
 
 pub none_of : (dim : Dim) (policy : Policy) → IsSound policy → dim ≢ Customer → list_any is_outrigger (policy_types policy dim) ≡ false
 none_of dim policy sound other =

@@ -6,16 +6,19 @@ use Rattle.std.proofs.lemmas.Bool.{eqb-true}
 use Rattle.wh_day.specs.Day.{is_day, first_day, last_day, day_before}
 use Rattle.wh_day.specs.Value.{none_text}
 use Rattle.wh_day.proofs.Days.{parts, is_day-parts, follows}
-use Rattle.wh_policy.specs.Types.{is_outrigger, is_profile}
+use Rattle.wh_policy.specs.Types.{rule, is_outrigger, is_profile}
 use Rattle.wh_policy.specs.declared.attribute.Dim.{Dim}
 use Rattle.wh_policy.specs.declared.attribute.Dim.TheVariants.{Product, Store, Customer}
 use Rattle.wh_policy.specs.declared.attribute.AttributeType.{AttributeType}
-use Rattle.wh_policy.specs.declared.attribute.AttributeType.TheVariants.{RetainOriginal, Overwrite, NewRow, NewAttribute, MiniDimension, MiniDimensionOutrigger, NewRowAndOverwrite, DualKeys}
+use Rattle.wh_policy.specs.declared.type_rule.MainColumn.{MainColumn}
+use Rattle.wh_policy.specs.declared.type_rule.MainColumn.TheVariants as main
+use Rattle.wh_policy.specs.declared.type_rule.SecondColumn.{SecondColumn}
+use Rattle.wh_policy.specs.declared.type_rule.SecondColumn.TheVariants as second
 use Rattle.wh_policy.specs.declared.record.DimensionRecord.{DimensionRecord}
 use Rattle.wh_history.specs.Keys.{place}
 use Rattle.wh_history.specs.Slots.{slot, picks, are_same}
 use Rattle.wh_history.specs.Dated.{dated, at, said, values_in, value_at, latest, original, prior, newest}
-use Rattle.wh_history.specs.Rows.{starts, later_starts, same_tracked, row, rows, main_column, second_column}
+use Rattle.wh_history.specs.Rows.{starts, later_starts, same_tracked, row, rows, main_text, main_column, second_text, second_column}
 use Rattle.wh_history.specs.Profiles.{after_unknown, current_profile, profile_now}
 use Rattle.wh_history.specs.Accepted.{Accepted, described, change_of, changes_of}
 use Rattle.wh_history.specs.declared.member.Change.{Change}
@@ -79,29 +82,26 @@ module _ (changes : List Change) (good : AllByRecursion IsGoodChange changes) wh
   prior_slot : (place : ℕ) → IsSlot (prior place changes)
   prior_slot place = first_other (latest place changes) (reverse (values_in place (dated changes))) (all_reversed IsSlot (values_in place (dated changes)) (values_slots place (dated changes) in_order))
 
+  second_in : (place : ℕ) (column : SecondColumn) → IsSlot (second_text changes place column)
+  second_in place second.Nothing = no_text
+  second_in place second.Prior = prior_slot place
+  second_in place second.Latest = latest_slot place
+
   second_slot : (place : ℕ) (kind : AttributeType) → IsSlot (second_column changes place kind)
-  second_slot place RetainOriginal = no_text
-  second_slot place Overwrite = no_text
-  second_slot place NewRow = no_text
-  second_slot place NewAttribute = prior_slot place
-  second_slot place MiniDimension = no_text
-  second_slot place MiniDimensionOutrigger = no_text
-  second_slot place NewRowAndOverwrite = latest_slot place
-  second_slot place DualKeys = no_text
+  second_slot place kind = second_in place (rule kind).second
 
 original_slot : (place : ℕ) (changes : List Change) → AllByRecursion IsGoodChange changes → IsSlot (original place changes)
 original_slot place [] all = unknown_slot
 original_slot place (c ∷ cs) all = first_other none_text (values_in place (c ∷ cs)) (values_slots place (c ∷ cs) all)
 
+main_in : (changes : List Change) → AllByRecursion IsGoodChange changes → (day place : ℕ) (column : MainColumn) → IsSlot (main_text changes day place column)
+main_in changes good day place main.Original = original_slot place changes good
+main_in changes good day place main.FirstDay = value_slot changes good day place
+main_in changes good day place main.Latest = latest_slot changes good place
+main_in changes good day place main.Nothing = no_text
+
 main_slot : (changes : List Change) → AllByRecursion IsGoodChange changes → (day place : ℕ) (kind : AttributeType) → IsSlot (main_column changes day place kind)
-main_slot changes good day place RetainOriginal = original_slot place changes good
-main_slot changes good day place Overwrite = latest_slot changes good place
-main_slot changes good day place NewRow = value_slot changes good day place
-main_slot changes good day place NewAttribute = latest_slot changes good place
-main_slot changes good day place MiniDimension = no_text
-main_slot changes good day place MiniDimensionOutrigger = no_text
-main_slot changes good day place NewRowAndOverwrite = value_slot changes good day place
-main_slot changes good day place DualKeys = value_slot changes good day place
+main_slot changes good day place kind = main_in changes good day place (rule kind).main
 
 -- ---- the days of rows
 

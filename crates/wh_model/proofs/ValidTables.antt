@@ -4,17 +4,20 @@ use Rattle.std.specs.Prelude.{option_map, option_to_list, flat_map, find, bytes_
 use Rattle.std.specs.Option.{option_and_then}
 use Rattle.std.specs.List.{AllByRecursion}
 use Rattle.wh_day.specs.Value.{no_card_text, unknown_text}
-use Rattle.wh_policy.specs.Types.{is_profile}
+use Rattle.wh_policy.specs.Types.{rule, is_profile}
 use Rattle.wh_policy.specs.declared.attribute.Dim.{Dim}
 use Rattle.wh_policy.specs.declared.attribute.Dim.TheVariants.{Product, Store, Customer}
 use Rattle.wh_policy.specs.declared.attribute.AttributeType.{AttributeType}
-use Rattle.wh_policy.specs.declared.attribute.AttributeType.TheVariants.{RetainOriginal, Overwrite, NewRow, NewAttribute, MiniDimension, MiniDimensionOutrigger, NewRowAndOverwrite, DualKeys}
+use Rattle.wh_policy.specs.declared.type_rule.MainColumn.{MainColumn}
+use Rattle.wh_policy.specs.declared.type_rule.MainColumn.TheVariants as main
+use Rattle.wh_policy.specs.declared.type_rule.SecondColumn.{SecondColumn}
+use Rattle.wh_policy.specs.declared.type_rule.SecondColumn.TheVariants as second
 use Rattle.wh_policy.specs.declared.record.DimensionRecord.{DimensionRecord}
 use Rattle.wh_policy.specs.declared.record.SaleRecord.{SaleRecord}
 use Rattle.wh_history.specs.Keys.{at_place, place}
 use Rattle.wh_history.specs.Slots.{slot, picked, picks, six, are_same}
 use Rattle.wh_history.specs.Accepted.{Accepted, Anchor, same_anchor, opening_of, day_of, anchors_of_record, anchors_of_sale, member_of_sale, anchors_by, described_by, sold_by, described, sold, mentions, anchors, members, types_in, durable_key, surrogate_key, member_of, profiles_of}
-use Rattle.wh_history.specs.Tables.{Limits, numbered_row, dimension_row, member_rows, no_card_row, no_card_main, no_card_second, change_row_of, change_row_in}
+use Rattle.wh_history.specs.Tables.{Limits, numbered_row, dimension_row, member_rows, no_card_row, no_card_in_main, no_card_main, no_card_in_second, no_card_second, change_row_of, change_row_in}
 use Rattle.wh_history.specs.Tables as history
 use Rattle.wh_history.specs.declared.rows.DimRow.{DimRow}
 use Rattle.wh_history.proofs.Basics.{some_is}
@@ -72,18 +75,22 @@ named_mentions dim (c ∷ commands) good gone =
 
 -- ---- the row of sales without a card, and the profiles
 
+no_in_main : (column : MainColumn) → IsSlot (no_card_in_main column)
+no_in_main main.Original = no_card_slot
+no_in_main main.FirstDay = no_card_slot
+no_in_main main.Latest = no_card_slot
+no_in_main main.Nothing = no_text
+
 no_main : (place : ℕ) (kind : AttributeType) → IsSlot (no_card_main place kind)
-no_main place kind = elim (is_profile kind) as (λ b. IsSlot (cond b [] no_card_text)) [ true ↦ no_text | false ↦ no_card_slot ]
+no_main place kind = no_in_main (rule kind).main
+
+no_in_second : (column : SecondColumn) → IsSlot (no_card_in_second column)
+no_in_second second.Nothing = no_text
+no_in_second second.Prior = no_card_slot
+no_in_second second.Latest = no_card_slot
 
 no_second : (place : ℕ) (kind : AttributeType) → IsSlot (no_card_second place kind)
-no_second place RetainOriginal = no_text
-no_second place Overwrite = no_text
-no_second place NewRow = no_text
-no_second place NewAttribute = no_card_slot
-no_second place MiniDimension = no_text
-no_second place MiniDimensionOutrigger = no_text
-no_second place NewRowAndOverwrite = no_card_slot
-no_second place DualKeys = no_text
+no_second place kind = no_in_second (rule kind).second
 
 no_card_natural : is_natural Customer 0 no_card_text ≡ true
 unfolding no_card_text

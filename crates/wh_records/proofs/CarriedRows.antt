@@ -3,13 +3,18 @@ use Rattle.std.proofs.Common.{◌≡◌, ℕ, suc, ◌+◌, true, false, cond, L
 use Rattle.std.specs.Prelude.{slice_get, unwrap_or, option_map}
 use Rattle.wh_day.specs.Day.{first_day}
 use Rattle.wh_policy.specs.Policy.{policy_types}
+use Rattle.wh_policy.specs.Types.{rule}
 use Rattle.wh_policy.specs.declared.attribute.AttributeType.{AttributeType}
-use Rattle.wh_policy.specs.declared.attribute.AttributeType.TheVariants.{RetainOriginal, Overwrite, NewRow, NewAttribute, MiniDimension, MiniDimensionOutrigger, NewRowAndOverwrite, DualKeys}
+use Rattle.wh_policy.specs.declared.type_rule.MainColumn.{MainColumn}
+use Rattle.wh_policy.specs.declared.type_rule.MainColumn.TheVariants as main
+use Rattle.wh_policy.specs.declared.type_rule.SecondColumn.{SecondColumn}
+use Rattle.wh_policy.specs.declared.type_rule.SecondColumn.TheVariants as second
 use Rattle.wh_policy.specs.declared.policy.Policy.{Policy}
+use Rattle.wh_policy.proofs.TypeLemmas.{original_outside}
 use Rattle.wh_history.specs.Accepted.{types_in, member_of, profiles_of}
-use Rattle.wh_history.specs.Dated.{dated}
+use Rattle.wh_history.specs.Dated.{dated, original}
 use Rattle.wh_history.specs.Profiles.{profile_now_by, profile_number}
-use Rattle.wh_history.specs.Rows.{starts, later_starts, same_tracked, spans, main_column, second_column, row, rows}
+use Rattle.wh_history.specs.Rows.{starts, later_starts, same_tracked, spans, main_text, main_column, second_text, second_column, row, rows}
 use Rattle.wh_history.specs.Slots.{columns_from, six}
 use Rattle.wh_history.specs.declared.member.Change.{Change}
 use Rattle.wh_history.specs.declared.member.Member.{Member}
@@ -42,25 +47,22 @@ same_columns f g from (kind ∷ kinds) same =
     cc
 
 module _ (kinds : List AttributeType) (changes others : List Change) (says : SaysTheSame kinds changes others) where
+  main_as : (start place : ℕ) (column : MainColumn) → (column ≡ main.Original → original place changes ≡ original place others) → main_text changes start place column ≡ main_text others start place column
+  main_as start place main.Original first = first refl
+  main_as start place main.FirstDay first = says.at_day start place
+  main_as start place main.Latest first = says.newest place
+  main_as start place main.Nothing first = refl
+
   main_same : (start place : ℕ) (kind : AttributeType) → slice_get kinds place ≡ Some kind → main_column changes start place kind ≡ main_column others start place kind
-  main_same start place RetainOriginal there = says.first place RetainOriginal there refl
-  main_same start place Overwrite there = says.newest place
-  main_same start place NewRow there = says.at_day start place
-  main_same start place NewAttribute there = says.newest place
-  main_same start place MiniDimension there = refl
-  main_same start place MiniDimensionOutrigger there = refl
-  main_same start place NewRowAndOverwrite there = says.at_day start place
-  main_same start place DualKeys there = says.at_day start place
+  main_same start place kind there = main_as start place (rule kind).main (λ is. says.first place kind there (original_outside kind is))
+
+  second_as : (place : ℕ) (column : SecondColumn) → second_text changes place column ≡ second_text others place column
+  second_as place second.Nothing = refl
+  second_as place second.Prior = says.before place
+  second_as place second.Latest = says.newest place
 
   second_same : (place : ℕ) (kind : AttributeType) → second_column changes place kind ≡ second_column others place kind
-  second_same place RetainOriginal = refl
-  second_same place Overwrite = refl
-  second_same place NewRow = refl
-  second_same place NewAttribute = says.before place
-  second_same place MiniDimension = refl
-  second_same place MiniDimensionOutrigger = refl
-  second_same place NewRowAndOverwrite = says.newest place
-  second_same place DualKeys = refl
+  second_same place kind = second_as place (rule kind).second
 
   main_texts : (start : ℕ) → columns_from (main_column changes start) 0 kinds ≡ columns_from (main_column others start) 0 kinds
   main_texts start = same_columns (main_column changes start) (main_column others start) 0 kinds (λ place kind there.
