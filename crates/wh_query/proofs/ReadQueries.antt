@@ -4,16 +4,15 @@ use Rattle.std.specs.Prelude.{is_some}
 use Rattle.std.specs.List.{list_all}
 use Rattle.wh_day.specs.Day.{read_day}
 use Rattle.wh_day.specs.Reading.{◌>>=◌}
-use Rattle.wh_policy.specs.declared.attribute.AttributeType.{AttributeType}
-use Rattle.wh_policy.specs.declared.attribute.AttributeType.TheVariants.{RetainOriginal, Overwrite, NewRow, NewAttribute, MiniDimension, MiniDimensionOutrigger, NewRowAndOverwrite, DualKeys}
 use Rattle.wh_policy.specs.declared.policy.Policy.{Policy}
 use Rattle.wh_report.specs.Asked.{Asked}
 use Rattle.wh_report.specs.Request.{read_request, range_makes, has_reading, subject_reads}
-use Rattle.wh_report.specs.Subject.{subject_in, type_reading}
+use Rattle.wh_report.specs.Subject.{subject_in}
 use Rattle.wh_batch.specs.declared.mode.Mode.TheVariants.{Was, Is}
 use Rattle.wh_report.specs.declared.request.RequestFault.{RequestFault}
 use Rattle.wh_report.specs.declared.subject.Subject.{Subject}
 use Rattle.wh_report.specs.declared.subject.Subject.TheVariants.{Attribute, Month, Holiday}
+use Rattle.wh_report.proofs.TypeReadings.{mode_found}
 use Rattle.wh_report.proofs.Ranges.{days_made, given, given_is, range_there}
 use Rattle.wh_query.specs.Asked.{ColumnAsked, ConditionAsked, QueryAsked, alone, have_readings, query_reads}
 use Rattle.wh_query.specs.declared.form.Form.TheVariants.{Csv}
@@ -68,19 +67,9 @@ queries_have_readings policy columns conditions from to q is =
 
 -- ---- a mode is found
 
-by_type : (kind : AttributeType) → is_some (type_reading kind (cond (is_some (type_reading kind Was)) Was Is)) ≡ true
-by_type RetainOriginal = refl
-by_type Overwrite = refl
-by_type NewRow = refl
-by_type NewAttribute = refl
-by_type MiniDimension = refl
-by_type MiniDimensionOutrigger = refl
-by_type NewRowAndOverwrite = refl
-by_type DualKeys = refl
-
 one_reads : (found : Option Subject) → is_some found ≡ true → subject_reads (cond (subject_reads Was found) Was Is) found ≡ true
 one_reads None there = absurd (cc)
-one_reads (Some (Attribute a)) there = by_type a.kind
+one_reads (Some (Attribute a)) there = mode_found a.kind
 one_reads (Some Month) there = refl
 one_reads (Some Holiday) there = refl
 

@@ -3,46 +3,37 @@ use Rattle.std.proofs.Common.{◌≡◌, ℕ, false, List, [], ◌∷◌, ◌++�
 use Rattle.std.specs.Prelude.{filter, slice_get, option_map, unwrap_or}
 use Rattle.wh_day.specs.Holidays.{holiday_text}
 use Rattle.wh_policy.specs.Policy.{policy_types}
-use Rattle.wh_policy.specs.Types.{is_profile}
+use Rattle.wh_policy.specs.Types.{rule, is_profile}
 use Rattle.wh_policy.specs.declared.attribute.AttributeType.{AttributeType}
-use Rattle.wh_policy.specs.declared.attribute.AttributeType.TheVariants.{RetainOriginal, Overwrite, NewRow, NewAttribute, MiniDimension, MiniDimensionOutrigger, NewRowAndOverwrite, DualKeys}
+use Rattle.wh_policy.specs.declared.type_rule.ValuePlace.TheVariants as at
 use Rattle.wh_policy.specs.declared.attribute.Dim.{Dim}
 use Rattle.wh_policy.specs.declared.policy.Policy.{Policy}
 use Rattle.wh_policy.specs.declared.record.SaleRecord.{SaleRecord}
+use Rattle.wh_policy.proofs.TypeLemmas.{original_outside}
 use Rattle.wh_history.specs.Accepted.{Accepted, types_in, changes_of, governed, member_of_sale, policy_after}
 use Rattle.wh_records.specs.Laws.{SaysTheSame}
 use Rattle.wh_records.proofs.CarriedMembers.{members_are_carried}
 use Rattle.wh_records.proofs.GoingOn.{members_go_on}
 use Rattle.wh_report.specs.Asked.{Asked}
 use Rattle.wh_report.specs.Carried.{LabelsAreCarried, LabelsGoOn, ReportsAreCarried, ReportsGoOn}
+use Rattle.wh_report.specs.Joined.{reading_place}
 use Rattle.wh_report.specs.Label.{shown, member_label, label, labelled, text_asked}
 use Rattle.wh_report.specs.Laws.{Reads}
 use Rattle.wh_report.specs.Request.{is_asked_of}
 use Rattle.wh_report.specs.Subject.{type_reading}
 use Rattle.wh_report.specs.Summary.{Sold}
 use Rattle.wh_batch.specs.declared.mode.Mode.{Mode}
-use Rattle.wh_batch.specs.declared.mode.Mode.TheVariants.{Was, Is, Prior}
 use Rattle.wh_report.specs.declared.subject.Reading.{Reading}
 use Rattle.wh_report.specs.declared.subject.Reading.TheVariants.{AtSaleDay, Latest, Original, PriorValue}
 use Rattle.wh_report.specs.declared.subject.SlotAttribute.{SlotAttribute}
 use Rattle.wh_report.specs.declared.subject.Subject.{Subject}
 use Rattle.wh_report.specs.declared.subject.Subject.TheVariants.{Attribute, Month, Holiday as HolidayOfSale}
 use Rattle.wh_report.proofs.NamedSubjects.{subject_stands}
+use Rattle.wh_report.proofs.TypeReadings.{stands, original_in_main}
 
 -- an attribute of which a mode shows the original value is none of the profile
 outside : (kind : AttributeType) (mode : Mode) → type_reading kind mode ≡ Some Original → is_profile kind ≡ false
-outside RetainOriginal mode is = refl
-outside Overwrite mode is = refl
-outside NewRow mode is = refl
-outside NewAttribute mode is = refl
-outside MiniDimension Was is = absurd cc
-outside MiniDimension Is is = absurd cc
-outside MiniDimension Prior is = absurd cc
-outside MiniDimensionOutrigger Was is = absurd cc
-outside MiniDimensionOutrigger Is is = absurd cc
-outside MiniDimensionOutrigger Prior is = absurd cc
-outside NewRowAndOverwrite mode is = refl
-outside DualKeys mode is = refl
+outside kind mode is = original_outside kind (original_in_main (rule kind) (unwrap_or (reading_place (rule kind) Original) at.Main) (stands kind mode Original is))
 
 -- two files that say the same of each member, under one policy, by the kinds of attributes that some commands leave
 module _ (commands after before : List Accepted) (says : (dim : Dim) (natural : List ℕ) → SaysTheSame (types_in dim commands) (changes_of dim after natural) (changes_of dim before natural)) (same : policy_after None after ≡ policy_after None before) where

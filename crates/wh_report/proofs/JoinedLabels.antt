@@ -3,16 +3,24 @@ use Rattle.std.proofs.Common.{◌≡◌, ℕ, true, List, Option, Some, None, re
 use Rattle.std.specs.Prelude.{slice_get, option_map, unwrap_or, filter_map}
 use Rattle.wh_day.specs.Day.{is_day, last_day}
 use Rattle.wh_day.specs.Value.{no_card_text}
-use Rattle.wh_policy.specs.Types.{is_profile}
+use Rattle.wh_policy.specs.Types.{rule, shows_first_day, is_part, shows_newest, is_profile, is_outrigger}
 use Rattle.wh_policy.specs.declared.attribute.AttributeType.{AttributeType}
-use Rattle.wh_policy.specs.declared.attribute.AttributeType.TheVariants.{RetainOriginal, Overwrite, NewRow, NewAttribute, MiniDimension, MiniDimensionOutrigger, NewRowAndOverwrite, DualKeys}
+use Rattle.wh_policy.specs.declared.type_rule.MainColumn.{MainColumn}
+use Rattle.wh_policy.specs.declared.type_rule.MainColumn.TheVariants as main
+use Rattle.wh_policy.specs.declared.type_rule.ProfilePart.{ProfilePart}
+use Rattle.wh_policy.specs.declared.type_rule.ProfilePart.TheVariants.{NoPart, Part, PartAndNewest}
+use Rattle.wh_policy.specs.declared.type_rule.SecondColumn.{SecondColumn}
+use Rattle.wh_policy.specs.declared.type_rule.SecondColumn.TheVariants as second
+use Rattle.wh_policy.specs.declared.type_rule.ValuePlace.{ValuePlace}
+use Rattle.wh_policy.specs.declared.type_rule.ValuePlace.TheVariants as at
 use Rattle.wh_policy.specs.declared.attribute.Dim.{Dim}
 use Rattle.wh_policy.specs.declared.attribute.Dim.TheVariants.{Product, Store, Customer}
 use Rattle.wh_policy.specs.declared.record.SaleRecord.{SaleRecord}
 use Rattle.wh_history.specs.Accepted.{Accepted, types_in, changes_of, durable_key, member_of_sale}
 use Rattle.wh_history.specs.Dated.{value_at, latest}
 use Rattle.wh_history.specs.Laws.{RecordsHaveDays, IsMember}
-use Rattle.wh_history.specs.Tables.{dimension_row, profile_row, key_at, profile_at, fact_of, no_card_row}
+use Rattle.wh_history.specs.Rows.{main_text, second_text}
+use Rattle.wh_history.specs.Tables.{dimension_row, profile_row, key_at, profile_at, fact_of, no_card_row, no_card_in_main, no_card_in_second}
 use Rattle.wh_history.specs.declared.rows.DimRow.{DimRow}
 use Rattle.wh_history.proofs.Basics.{some_is}
 use Rattle.wh_history.proofs.Effective.{found_row, in_order}
@@ -21,20 +29,20 @@ use Rattle.wh_plan.proofs.FoundRows.{row_key}
 use Rattle.wh_model.proofs.ValidTables.{then_of}
 use Rattle.wh_rows.specs.declared.rows.ProfileRow.{ProfileRow}
 use Rattle.wh_report.specs.Defined.{AreRowsOf, AreDefined}
-use Rattle.wh_report.specs.Joined.{slot_column, surrogate_in, durable_in, fact_key}
+use Rattle.wh_report.specs.Joined.{slot_column, place_column, reading_place, surrogate_in, durable_in, fact_key}
 use Rattle.wh_report.specs.Label.{shown, member_label}
 use Rattle.wh_report.specs.Labels.{LabelRows, labels_in, entry, first_text}
-use Rattle.wh_report.specs.Subject.{type_reading}
+use Rattle.wh_report.specs.Subject.{main_reading, second_reading, current_reading, profile_reading, newest_reading, place_reading, type_reading}
 use Rattle.wh_report.specs.declared.column.LabelColumn.{LabelColumn}
 use Rattle.wh_report.specs.declared.column.LabelColumn.TheVariants.{Main, Second, CurrentMain, FactProfile, CurrentProfile, CalendarMonth, CalendarHoliday}
 use Rattle.wh_batch.specs.declared.mode.Mode.{Mode}
-use Rattle.wh_batch.specs.declared.mode.Mode.TheVariants.{Was, Is, Prior}
 use Rattle.wh_report.specs.declared.subject.Reading.{Reading}
 use Rattle.wh_report.specs.declared.subject.Reading.TheVariants.{AtSaleDay, Latest, Original, PriorValue}
 use Rattle.wh_report.proofs.CurrentRows.{current_row, no_card_current, found_current}
 use Rattle.wh_report.proofs.DefinedTexts.{the_row, main_shows, second_shows, tracked_shows, latest_on_last_day, no_card_a, no_card_b}
 use Rattle.wh_model.proofs.ValidRows.{last_is_day}
 use Rattle.wh_report.proofs.FoundTexts.{found_by_key}
+use Rattle.wh_report.proofs.TypeReadings.{stands}
 use Rattle.wh_report.proofs.ProfileTexts.{profile_text, at_sale_day, no_card_profile, newest_profile}
 
 -- the key of a column for a sale of a day, to a member or without a card
@@ -62,11 +70,39 @@ shown_alone P r which is here = subst P (some_is r which is) here
 for_customer : (P : Dim → Type 0) → P Customer → (dim : Dim) → dim ≡ Customer → P dim
 for_customer P here dim e = subst P (sym e) here
 
+-- a place that has a reading shows something, and no card in the row of sales without one
+main_no_card : (column : MainColumn) (which : Reading) → main_reading column ≡ Some which → no_card_in_main column ≡ no_card_text
+main_no_card main.Original which reads = refl
+main_no_card main.FirstDay which reads = refl
+main_no_card main.Latest which reads = refl
+main_no_card main.Nothing which reads = absurd cc
+
+second_no_card : (column : SecondColumn) (which : Reading) → second_reading column ≡ Some which → no_card_in_second column ≡ no_card_text
+second_no_card second.Nothing which reads = absurd cc
+second_no_card second.Prior which reads = refl
+second_no_card second.Latest which reads = refl
+
+current_no_card : (column : MainColumn) (which : Reading) → current_reading column ≡ Some which → no_card_in_main column ≡ no_card_text
+current_no_card main.Original which reads = refl
+current_no_card main.FirstDay which reads = refl
+current_no_card main.Latest which reads = refl
+current_no_card main.Nothing which reads = absurd cc
+
+part_read : (part : ProfilePart) (which : Reading) → profile_reading part ≡ Some which → is_part part ≡ true
+part_read NoPart which reads = absurd cc
+part_read Part which reads = refl
+part_read PartAndNewest which reads = refl
+
+newest_read : (part : ProfilePart) (which : Reading) → newest_reading part ≡ Some which → is_part part ≡ true
+newest_read NoPart which reads = absurd cc
+newest_read Part which reads = absurd cc
+newest_read PartAndNewest which reads = refl
+
 module _ (commands : List Accepted) (t : LabelRows) (ends : RecordsHaveDays commands) (day place : ℕ) (within : is_day day ≡ true) where
   -- of a sale to a member
-  abbrev Found : Dim → AttributeType → List ℕ → Reading → Type 0
-  Found dim kind natural which = AreDefined commands (slot_column dim place kind which) t
-      → first_text (key_of commands (slot_column dim place kind which) day (Some natural)) (labels_in (slot_column dim place kind which) t) ≡ Some (shown (changes_of dim commands natural) place day which)
+  abbrev Found : Dim → ValuePlace → List ℕ → Reading → Type 0
+  Found dim where_found natural which = AreDefined commands (place_column dim place where_found) t
+      → first_text (key_of commands (place_column dim place where_found) day (Some natural)) (labels_in (place_column dim place where_found) t) ≡ Some (shown (changes_of dim commands natural) place day which)
 
   module _ (dim : Dim) (kind : AttributeType) (natural : List ℕ) (member : IsMember dim commands natural) (is : slice_get (types_in dim commands) place ≡ Some kind) where
     main_found : (text : List ℕ) → slice_get ((the_row commands dim natural day place kind ends member within is).0).a place ≡ Some text → AreRowsOf (λ r. r.surrogate) (dimension_row commands dim) t.rows
@@ -93,58 +129,63 @@ module _ (commands : List Accepted) (t : LabelRows) (ends : RecordsHaveDays comm
       → first_text (profile_at commands day natural) (labels_in (FactProfile place) t) ≡ Some (value_at day place (changes_of Customer commands natural))
   profile_of_day kind natural is counts are = profile_found commands t.profiles place (profile_at commands day natural) _ are (at_sale_day commands place kind is counts natural day)
 
-  profile_of_now : (natural : List ℕ) → IsMember Customer commands natural → slice_get (types_in Customer commands) place ≡ Some MiniDimensionOutrigger → AreDefined commands (CurrentProfile place) t
+  profile_of_now : (kind : AttributeType) (natural : List ℕ) → IsMember Customer commands natural → slice_get (types_in Customer commands) place ≡ Some kind → is_profile kind ≡ true → is_outrigger kind ≡ true → AreDefined commands (CurrentProfile place) t
       → first_text (durable_key Customer commands natural) (labels_in (CurrentProfile place) t) ≡ Some (latest place (changes_of Customer commands natural))
-  profile_of_now natural member is are =
+  profile_of_now kind natural member is counts newest are =
       found_current commands Customer t.rows _ (durable_key Customer commands natural) (found_row Customer commands natural ends member last_day last_is_day).0 (latest place (changes_of Customer commands natural)) are.0 (current_row commands Customer natural ends member)
-      (profile_found commands t.profiles place _ _ are.1 (newest_profile commands place MiniDimensionOutrigger is refl natural ends member refl))
+      (profile_found commands t.profiles place _ _ are.1 (newest_profile commands place kind is counts natural ends member newest))
 
-  member_found : (dim : Dim) (kind : AttributeType) (mode : Mode) (which : Reading) (natural : List ℕ) → IsMember dim commands natural → slice_get (types_in dim commands) place ≡ Some kind → (is_profile kind ≡ true → dim ≡ Customer) → type_reading kind mode ≡ Some which → Found dim kind natural which
-  member_found dim RetainOriginal Was which natural member is customer reads =
-      shown_alone (Found dim RetainOriginal natural) Original which reads (main_found dim RetainOriginal natural member is _ (main_shows commands dim natural day place RetainOriginal ends member within is _ (λ start. refl)))
-  member_found dim RetainOriginal Is which natural member is customer reads =
-      shown_alone (Found dim RetainOriginal natural) Original which reads (main_found dim RetainOriginal natural member is _ (main_shows commands dim natural day place RetainOriginal ends member within is _ (λ start. refl)))
-  member_found dim RetainOriginal Prior which natural member is customer reads = absurd cc
-  member_found dim Overwrite Was which natural member is customer reads =
-      shown_alone (Found dim Overwrite natural) Latest which reads (main_found dim Overwrite natural member is _ (main_shows commands dim natural day place Overwrite ends member within is _ (λ start. refl)))
-  member_found dim Overwrite Is which natural member is customer reads =
-      shown_alone (Found dim Overwrite natural) Latest which reads (main_found dim Overwrite natural member is _ (main_shows commands dim natural day place Overwrite ends member within is _ (λ start. refl)))
-  member_found dim Overwrite Prior which natural member is customer reads = absurd cc
-  member_found dim NewRow Was which natural member is customer reads =
-      shown_alone (Found dim NewRow natural) AtSaleDay which reads (main_found dim NewRow natural member is _ (tracked_shows commands dim natural day place NewRow ends member within is refl))
-  member_found dim NewRow Is which natural member is customer reads = absurd cc
-  member_found dim NewRow Prior which natural member is customer reads = absurd cc
-  member_found dim NewAttribute Was which natural member is customer reads = absurd cc
-  member_found dim NewAttribute Is which natural member is customer reads =
-      shown_alone (Found dim NewAttribute natural) Latest which reads (main_found dim NewAttribute natural member is _ (main_shows commands dim natural day place NewAttribute ends member within is _ (λ start. refl)))
-  member_found dim NewAttribute Prior which natural member is customer reads =
-      shown_alone (Found dim NewAttribute natural) PriorValue which reads (second_found dim NewAttribute natural member is _ (second_shows commands dim natural day place NewAttribute ends member within is))
-  member_found dim MiniDimension Was which natural member is customer reads =
-      shown_alone (Found dim MiniDimension natural) AtSaleDay which reads (for_customer (λ d. slice_get (types_in d commands) place ≡ Some MiniDimension → Found d MiniDimension natural AtSaleDay) (λ here. profile_of_day MiniDimension natural here refl) dim (customer refl) is)
-  member_found dim MiniDimension Is which natural member is customer reads = absurd cc
-  member_found dim MiniDimension Prior which natural member is customer reads = absurd cc
-  member_found dim MiniDimensionOutrigger Was which natural member is customer reads =
-      shown_alone (Found dim MiniDimensionOutrigger natural) AtSaleDay which reads
-      (for_customer (λ d. slice_get (types_in d commands) place ≡ Some MiniDimensionOutrigger → Found d MiniDimensionOutrigger natural AtSaleDay) (λ here. profile_of_day MiniDimensionOutrigger natural here refl) dim (customer refl) is)
-  member_found dim MiniDimensionOutrigger Is which natural member is customer reads =
-      shown_alone (Found dim MiniDimensionOutrigger natural) Latest which reads
-      (for_customer (λ d. IsMember d commands natural → slice_get (types_in d commands) place ≡ Some MiniDimensionOutrigger → Found d MiniDimensionOutrigger natural Latest) (λ own here. profile_of_now natural own here) dim (customer refl) member is)
-  member_found dim MiniDimensionOutrigger Prior which natural member is customer reads = absurd cc
-  member_found dim NewRowAndOverwrite Was which natural member is customer reads =
-      shown_alone (Found dim NewRowAndOverwrite natural) AtSaleDay which reads (main_found dim NewRowAndOverwrite natural member is _ (tracked_shows commands dim natural day place NewRowAndOverwrite ends member within is refl))
-  member_found dim NewRowAndOverwrite Is which natural member is customer reads =
-      shown_alone (Found dim NewRowAndOverwrite natural) Latest which reads (second_found dim NewRowAndOverwrite natural member is _ (second_shows commands dim natural day place NewRowAndOverwrite ends member within is))
-  member_found dim NewRowAndOverwrite Prior which natural member is customer reads = absurd cc
-  member_found dim DualKeys Was which natural member is customer reads =
-      shown_alone (Found dim DualKeys natural) AtSaleDay which reads (main_found dim DualKeys natural member is _ (tracked_shows commands dim natural day place DualKeys ends member within is refl))
-  member_found dim DualKeys Is which natural member is customer reads =
-      shown_alone (Found dim DualKeys natural) Latest which reads (current_found dim DualKeys natural member is (tracked_shows commands dim natural last_day place DualKeys ends member last_is_day is refl))
-  member_found dim DualKeys Prior which natural member is customer reads = absurd cc
+  -- what each place shows, by what the type shows there
+  module _ (dim : Dim) (kind : AttributeType) (natural : List ℕ) (member : IsMember dim commands natural) (is : slice_get (types_in dim commands) place ≡ Some kind) (customer : is_profile kind ≡ true → dim ≡ Customer) (which : Reading) where
+    found_main : (column : MainColumn) → (rule kind).main ≡ column → main_reading column ≡ Some which → Found dim at.Main natural which
+    found_main main.Original same reads =
+        shown_alone (Found dim at.Main natural) Original which reads (main_found dim kind natural member is _ (main_shows commands dim natural day place kind ends member within is _ (λ start. ap (main_text (changes_of dim commands natural) start place) same)))
+    found_main main.FirstDay same reads =
+        shown_alone (Found dim at.Main natural) AtSaleDay which reads (main_found dim kind natural member is _ (tracked_shows commands dim natural day place kind ends member within is (ap shows_first_day same)))
+    found_main main.Latest same reads =
+        shown_alone (Found dim at.Main natural) Latest which reads (main_found dim kind natural member is _ (main_shows commands dim natural day place kind ends member within is _ (λ start. ap (main_text (changes_of dim commands natural) start place) same)))
+    found_main main.Nothing same reads = absurd cc
+
+    found_second : (column : SecondColumn) → (rule kind).second ≡ column → second_reading column ≡ Some which → Found dim at.Second natural which
+    found_second second.Nothing same reads = absurd cc
+    found_second second.Prior same reads =
+        shown_alone (Found dim at.Second natural) PriorValue which reads (second_found dim kind natural member is _ (second_shows commands dim natural day place kind ends member within is ∙ ap (λ c. Some (second_text (changes_of dim commands natural) place c)) same))
+    found_second second.Latest same reads =
+        shown_alone (Found dim at.Second natural) Latest which reads (second_found dim kind natural member is _ (second_shows commands dim natural day place kind ends member within is ∙ ap (λ c. Some (second_text (changes_of dim commands natural) place c)) same))
+
+    found_now : (column : MainColumn) → (rule kind).main ≡ column → current_reading column ≡ Some which → Found dim at.CurrentMain natural which
+    found_now main.Original same reads = absurd cc
+    found_now main.FirstDay same reads =
+        shown_alone (Found dim at.CurrentMain natural) Latest which reads (current_found dim kind natural member is (tracked_shows commands dim natural last_day place kind ends member last_is_day is (ap shows_first_day same)))
+    found_now main.Latest same reads = absurd cc
+    found_now main.Nothing same reads = absurd cc
+
+    of_that_day : is_profile kind ≡ true → Found dim at.SaleProfile natural AtSaleDay
+    of_that_day counts = for_customer (λ d. slice_get (types_in d commands) place ≡ Some kind → Found d at.SaleProfile natural AtSaleDay) (λ here. profile_of_day kind natural here counts) dim (customer counts) is
+
+    found_profile : (part : ProfilePart) → (rule kind).profile ≡ part → profile_reading part ≡ Some which → Found dim at.SaleProfile natural which
+    found_profile NoPart same reads = absurd cc
+    found_profile Part same reads = shown_alone (Found dim at.SaleProfile natural) AtSaleDay which reads (of_that_day (ap is_part same))
+    found_profile PartAndNewest same reads = shown_alone (Found dim at.SaleProfile natural) AtSaleDay which reads (of_that_day (ap is_part same))
+
+    found_newest : (part : ProfilePart) → (rule kind).profile ≡ part → newest_reading part ≡ Some which → Found dim at.NewestProfile natural which
+    found_newest NoPart same reads = absurd cc
+    found_newest Part same reads = absurd cc
+    found_newest PartAndNewest same reads =
+        shown_alone (Found dim at.NewestProfile natural) Latest which reads
+        (for_customer (λ d. IsMember d commands natural → slice_get (types_in d commands) place ≡ Some kind → Found d at.NewestProfile natural Latest) (λ own here. profile_of_now kind natural own here (ap is_part same) (ap shows_newest same)) dim (customer (ap is_part same)) member is)
+
+    found_at : (where_found : ValuePlace) → place_reading (rule kind) where_found ≡ Some which → Found dim where_found natural which
+    found_at at.Main reads = found_main (rule kind).main refl reads
+    found_at at.Second reads = found_second (rule kind).second refl reads
+    found_at at.CurrentMain reads = found_now (rule kind).main refl reads
+    found_at at.SaleProfile reads = found_profile (rule kind).profile refl reads
+    found_at at.NewestProfile reads = found_newest (rule kind).profile refl reads
 
   -- of a sale without a card
-  abbrev FoundNone : AttributeType → Reading → Type 0
-  FoundNone kind which = AreDefined commands (slot_column Customer place kind which) t
-      → first_text (key_of commands (slot_column Customer place kind which) day None) (labels_in (slot_column Customer place kind which) t) ≡ Some no_card_text
+  abbrev FoundNone : ValuePlace → Type 0
+  FoundNone where_found = AreDefined commands (place_column Customer place where_found) t
+      → first_text (key_of commands (place_column Customer place where_found) day None) (labels_in (place_column Customer place where_found) t) ≡ Some no_card_text
 
   abbrev row_zero : DimRow
   row_zero = no_card_row (types_in Customer commands)
@@ -158,32 +199,19 @@ module _ (commands : List Accepted) (t : LabelRows) (ends : RecordsHaveDays comm
   none_in_profile : (kind : AttributeType) → slice_get (types_in Customer commands) place ≡ Some kind → is_profile kind ≡ true → AreRowsOf (λ p. p.number) (defined.profile_at commands) t.profiles → first_text 0 (labels_in (FactProfile place) t) ≡ Some no_card_text
   none_in_profile kind is counts are = profile_found commands t.profiles place 0 no_card_text are (no_card_profile commands place kind is counts)
 
-  none_found : (kind : AttributeType) (mode : Mode) (which : Reading) → slice_get (types_in Customer commands) place ≡ Some kind → type_reading kind mode ≡ Some which → FoundNone kind which
-  none_found RetainOriginal Was which is reads = shown_alone (FoundNone RetainOriginal) Original which reads (λ are. none_in_main are (no_card_a (types_in Customer commands) place RetainOriginal is))
-  none_found RetainOriginal Is which is reads = shown_alone (FoundNone RetainOriginal) Original which reads (λ are. none_in_main are (no_card_a (types_in Customer commands) place RetainOriginal is))
-  none_found RetainOriginal Prior which is reads = absurd cc
-  none_found Overwrite Was which is reads = shown_alone (FoundNone Overwrite) Latest which reads (λ are. none_in_main are (no_card_a (types_in Customer commands) place Overwrite is))
-  none_found Overwrite Is which is reads = shown_alone (FoundNone Overwrite) Latest which reads (λ are. none_in_main are (no_card_a (types_in Customer commands) place Overwrite is))
-  none_found Overwrite Prior which is reads = absurd cc
-  none_found NewRow Was which is reads = shown_alone (FoundNone NewRow) AtSaleDay which reads (λ are. none_in_main are (no_card_a (types_in Customer commands) place NewRow is))
-  none_found NewRow Is which is reads = absurd cc
-  none_found NewRow Prior which is reads = absurd cc
-  none_found NewAttribute Was which is reads = absurd cc
-  none_found NewAttribute Is which is reads = shown_alone (FoundNone NewAttribute) Latest which reads (λ are. none_in_main are (no_card_a (types_in Customer commands) place NewAttribute is))
-  none_found NewAttribute Prior which is reads = shown_alone (FoundNone NewAttribute) PriorValue which reads (λ are. none_in_second are (no_card_b (types_in Customer commands) place NewAttribute is))
-  none_found MiniDimension Was which is reads = shown_alone (FoundNone MiniDimension) AtSaleDay which reads (none_in_profile MiniDimension is refl)
-  none_found MiniDimension Is which is reads = absurd cc
-  none_found MiniDimension Prior which is reads = absurd cc
-  none_found MiniDimensionOutrigger Was which is reads = shown_alone (FoundNone MiniDimensionOutrigger) AtSaleDay which reads (none_in_profile MiniDimensionOutrigger is refl)
-  none_found MiniDimensionOutrigger Is which is reads = shown_alone (FoundNone MiniDimensionOutrigger) Latest which reads (λ are. found_current commands Customer t.rows _ 0 row_zero no_card_text are.0 (no_card_current commands ends)
-      (profile_found commands t.profiles place 0 no_card_text are.1 (no_card_profile commands place MiniDimensionOutrigger is refl)))
-  none_found MiniDimensionOutrigger Prior which is reads = absurd cc
-  none_found NewRowAndOverwrite Was which is reads = shown_alone (FoundNone NewRowAndOverwrite) AtSaleDay which reads (λ are. none_in_main are (no_card_a (types_in Customer commands) place NewRowAndOverwrite is))
-  none_found NewRowAndOverwrite Is which is reads = shown_alone (FoundNone NewRowAndOverwrite) Latest which reads (λ are. none_in_second are (no_card_b (types_in Customer commands) place NewRowAndOverwrite is))
-  none_found NewRowAndOverwrite Prior which is reads = absurd cc
-  none_found DualKeys Was which is reads = shown_alone (FoundNone DualKeys) AtSaleDay which reads (λ are. none_in_main are (no_card_a (types_in Customer commands) place DualKeys is))
-  none_found DualKeys Is which is reads = shown_alone (FoundNone DualKeys) Latest which reads (λ are. found_current commands Customer t.rows (λ (r : DimRow). slice_get r.a place) 0 row_zero no_card_text are (no_card_current commands ends) (no_card_a (types_in Customer commands) place DualKeys is))
-  none_found DualKeys Prior which is reads = absurd cc
+  module _ (kind : AttributeType) (is : slice_get (types_in Customer commands) place ≡ Some kind) (which : Reading) where
+    none_a : no_card_in_main (rule kind).main ≡ no_card_text → slice_get row_zero.a place ≡ Some no_card_text
+    none_a shows = no_card_a (types_in Customer commands) place kind is ∙ ap Some shows
+
+    none_at : (where_found : ValuePlace) → place_reading (rule kind) where_found ≡ Some which → FoundNone where_found
+    none_at at.Main reads = λ are. none_in_main are (none_a (main_no_card (rule kind).main which reads))
+    none_at at.Second reads = λ are. none_in_second are (no_card_b (types_in Customer commands) place kind is ∙ ap Some (second_no_card (rule kind).second which reads))
+    none_at at.CurrentMain reads =
+        λ are. found_current commands Customer t.rows (λ (r : DimRow). slice_get r.a place) 0 row_zero no_card_text are (no_card_current commands ends) (none_a (current_no_card (rule kind).main which reads))
+    none_at at.SaleProfile reads = none_in_profile kind is (part_read (rule kind).profile which reads)
+    none_at at.NewestProfile reads =
+        λ are. found_current commands Customer t.rows _ 0 row_zero no_card_text are.0 (no_card_current commands ends)
+        (profile_found commands t.profiles place 0 no_card_text are.1 (no_card_profile commands place kind is (newest_read (rule kind).profile which reads)))
 
 -- ---- the keys of facts
 
@@ -197,27 +225,12 @@ IsOf dim (CurrentProfile place) = dim ≡ Customer
 IsOf dim CalendarMonth = Unit {0}
 IsOf dim CalendarHoliday = Unit {0}
 
-is_of : (dim : Dim) (place : ℕ) (kind : AttributeType) (which : Reading) → (is_profile kind ≡ true → dim ≡ Customer) → IsOf dim (slot_column dim place kind which)
-is_of dim place RetainOriginal which customer = refl
-is_of dim place Overwrite which customer = refl
-is_of dim place NewRow which customer = refl
-is_of dim place NewAttribute AtSaleDay customer = refl
-is_of dim place NewAttribute Latest customer = refl
-is_of dim place NewAttribute Original customer = refl
-is_of dim place NewAttribute PriorValue customer = refl
-is_of dim place MiniDimension which customer = customer refl
-is_of dim place MiniDimensionOutrigger AtSaleDay customer = customer refl
-is_of dim place MiniDimensionOutrigger Latest customer = customer refl
-is_of dim place MiniDimensionOutrigger Original customer = customer refl
-is_of dim place MiniDimensionOutrigger PriorValue customer = customer refl
-is_of dim place NewRowAndOverwrite AtSaleDay customer = refl
-is_of dim place NewRowAndOverwrite Latest customer = refl
-is_of dim place NewRowAndOverwrite Original customer = refl
-is_of dim place NewRowAndOverwrite PriorValue customer = refl
-is_of dim place DualKeys AtSaleDay customer = refl
-is_of dim place DualKeys Latest customer = refl
-is_of dim place DualKeys Original customer = refl
-is_of dim place DualKeys PriorValue customer = refl
+is_of : (dim : Dim) (place : ℕ) (kind : AttributeType) (which : Reading) (where_found : ValuePlace) → place_reading (rule kind) where_found ≡ Some which → (is_profile kind ≡ true → dim ≡ Customer) → IsOf dim (place_column dim place where_found)
+is_of dim place kind which at.Main reads customer = refl
+is_of dim place kind which at.Second reads customer = refl
+is_of dim place kind which at.CurrentMain reads customer = refl
+is_of dim place kind which at.SaleProfile reads customer = customer (part_read (rule kind).profile which reads)
+is_of dim place kind which at.NewestProfile reads customer = customer (newest_read (rule kind).profile which reads)
 
 module _ (commands : List Accepted) (s : SaleRecord) where
   surrogate_is : (dim : Dim) → surrogate_in dim (fact_of commands s) ≡ unwrap_or (option_map (key_at commands dim s.day) (member_of_sale dim s)) 0
@@ -249,9 +262,11 @@ module _ (commands : List Accepted) (s : SaleRecord) where
       → slice_get (types_in dim commands) place ≡ Some kind → (is_profile kind ≡ true → dim ≡ Customer) → type_reading kind mode ≡ Some which → AreDefined commands (slot_column dim place kind which) t
       → first_text (fact_key (slot_column dim place kind which) (fact_of commands s)) (labels_in (slot_column dim place kind which) t) ≡ Some (member_label commands dim place s.day which (member_of_sale dim s))
   attribute_found t dim place kind mode which ends named within is customer reads are =
-      ap (λ key. first_text key (labels_in (slot_column dim place kind which) t)) (key_is dim (slot_column dim place kind which) (is_of dim place kind which customer))
+      let where_found : ValuePlace = unwrap_or (reading_place (rule kind) which) at.Main in
+      let stood : place_reading (rule kind) where_found ≡ Some which = stands kind mode which reads in
+      ap (λ key. first_text key (labels_in (slot_column dim place kind which) t)) (key_is dim (slot_column dim place kind which) (is_of dim place kind which where_found stood customer))
       ∙ elim (member_of_sale dim s) as (λ o. (member_of_sale dim s ≡ o) → first_text (key_of commands (slot_column dim place kind which) s.day o) (labels_in (slot_column dim place kind which) t) ≡ Some (member_label commands dim place s.day which o)) [
         | None ↦ λ none. for_customer (λ d. slice_get (types_in d commands) place ≡ Some kind → AreDefined commands (slot_column d place kind which) t → first_text (key_of commands (slot_column d place kind which) s.day None) (labels_in (slot_column d place kind which) t) ≡ Some no_card_text)
-            (λ here given. none_found commands t ends s.day place within kind mode which here reads given) dim (none_to_customer dim none) is are
-        | Some natural ↦ λ own. member_found commands t ends s.day place within dim kind mode which natural (named natural own) is customer reads are
+            (λ here given. none_at commands t ends s.day place within kind here which where_found stood given) dim (none_to_customer dim none) is are
+        | Some natural ↦ λ own. found_at commands t ends s.day place within dim kind natural (named natural own) is customer which where_found stood are
       ] refl

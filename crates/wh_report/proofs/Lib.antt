@@ -4,6 +4,7 @@ pub mod WorkedDumps
 pub mod ReportLaws
 pub mod NamedSubjects
 pub mod JoinedLabels
+pub mod TypeReadings
 pub mod CurrentRows
 pub mod ProfileTexts
 pub mod DefinedTexts

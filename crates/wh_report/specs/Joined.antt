@@ -1,7 +1,10 @@
 -- Where the labels of sales stand in the tables, and the keys of facts that lead there.
-use Rattle.std.specs.Prelude.{ℕ}
+use Rattle.std.specs.Prelude.{ℕ, Option, unwrap_or}
+use Rattle.wh_policy.specs.Types.{rule}
 use Rattle.wh_policy.specs.declared.attribute.AttributeType.{AttributeType}
-use Rattle.wh_policy.specs.declared.attribute.AttributeType.TheVariants.{RetainOriginal, Overwrite, NewRow, NewAttribute, MiniDimension, MiniDimensionOutrigger, NewRowAndOverwrite, DualKeys}
+use Rattle.wh_policy.specs.declared.type_rule.TypeRule.{TypeRule}
+use Rattle.wh_policy.specs.declared.type_rule.ValuePlace.{ValuePlace}
+use Rattle.wh_policy.specs.declared.type_rule.ValuePlace.TheVariants as at
 use Rattle.wh_policy.specs.declared.attribute.Dim.{Dim}
 use Rattle.wh_policy.specs.declared.attribute.Dim.TheVariants.{Product, Store, Customer}
 use Rattle.wh_history.specs.declared.facts.Fact.{Fact}
@@ -19,28 +22,24 @@ use Rattle.wh_report.specs.declared.subject.SlotAttribute.{SlotAttribute}
 use Rattle.wh_report.specs.declared.subject.Subject.{Subject}
 use Rattle.wh_report.specs.declared.subject.Subject.TheVariants.{Attribute, Month, Holiday}
 
+-- where a type keeps what a reading shows: the latest where it looks for what is, the prior where it looks for what was before
+abbrev pub reading_place : TypeRule → Reading → Option ValuePlace
+reading_place r AtSaleDay = r.was
+reading_place r Latest = r.is_now
+reading_place r Original = r.was
+reading_place r PriorValue = r.prior
+
+-- the column of a slot at a place
+abbrev pub place_column : Dim → ℕ → ValuePlace → LabelColumn
+place_column dim place at.Main = Main dim place
+place_column dim place at.Second = Second dim place
+place_column dim place at.CurrentMain = CurrentMain dim place
+place_column dim place at.SaleProfile = FactProfile place
+place_column dim place at.NewestProfile = CurrentProfile place
+
 -- the column of a slot that has what a reading shows of an attribute of a type
 abbrev pub slot_column : Dim → ℕ → AttributeType → Reading → LabelColumn
-slot_column dim place RetainOriginal which = Main dim place
-slot_column dim place Overwrite which = Main dim place
-slot_column dim place NewRow which = Main dim place
-slot_column dim place NewAttribute AtSaleDay = Main dim place
-slot_column dim place NewAttribute Latest = Main dim place
-slot_column dim place NewAttribute Original = Main dim place
-slot_column dim place NewAttribute PriorValue = Second dim place
-slot_column dim place MiniDimension which = FactProfile place
-slot_column dim place MiniDimensionOutrigger AtSaleDay = FactProfile place
-slot_column dim place MiniDimensionOutrigger Latest = CurrentProfile place
-slot_column dim place MiniDimensionOutrigger Original = FactProfile place
-slot_column dim place MiniDimensionOutrigger PriorValue = FactProfile place
-slot_column dim place NewRowAndOverwrite AtSaleDay = Main dim place
-slot_column dim place NewRowAndOverwrite Latest = Second dim place
-slot_column dim place NewRowAndOverwrite Original = Main dim place
-slot_column dim place NewRowAndOverwrite PriorValue = Main dim place
-slot_column dim place DualKeys AtSaleDay = Main dim place
-slot_column dim place DualKeys Latest = CurrentMain dim place
-slot_column dim place DualKeys Original = Main dim place
-slot_column dim place DualKeys PriorValue = Main dim place
+slot_column dim place kind which = place_column dim place (unwrap_or (reading_place (rule kind) which) at.Main)
 
 abbrev pub attribute_column : SlotAttribute → Reading → LabelColumn
 attribute_column a which = slot_column a.dim a.place a.kind which

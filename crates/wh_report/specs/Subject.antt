@@ -3,9 +3,17 @@ use Rattle.std.specs.Prelude.{ℕ, ◌-◌, pos, cond, ◌==◌, if◌then◌els
 use Rattle.std.specs.Str.{bytes_eq}
 use Rattle.wh_policy.specs.Names.{slot_from}
 use Rattle.wh_policy.specs.Policy.{policy_attributes}
-use Rattle.wh_policy.specs.Types.{attribute_type_of_number}
+use Rattle.wh_policy.specs.Types.{rule, attribute_type_of_number}
 use Rattle.wh_policy.specs.declared.attribute.AttributeType.{AttributeType}
-use Rattle.wh_policy.specs.declared.attribute.AttributeType.TheVariants.{RetainOriginal, Overwrite, NewRow, NewAttribute, MiniDimension, MiniDimensionOutrigger, NewRowAndOverwrite, DualKeys}
+use Rattle.wh_policy.specs.declared.type_rule.MainColumn.{MainColumn}
+use Rattle.wh_policy.specs.declared.type_rule.MainColumn.TheVariants as main
+use Rattle.wh_policy.specs.declared.type_rule.ProfilePart.{ProfilePart}
+use Rattle.wh_policy.specs.declared.type_rule.ProfilePart.TheVariants.{NoPart, Part, PartAndNewest}
+use Rattle.wh_policy.specs.declared.type_rule.SecondColumn.{SecondColumn}
+use Rattle.wh_policy.specs.declared.type_rule.SecondColumn.TheVariants as second
+use Rattle.wh_policy.specs.declared.type_rule.TypeRule.{TypeRule}
+use Rattle.wh_policy.specs.declared.type_rule.ValuePlace.{ValuePlace}
+use Rattle.wh_policy.specs.declared.type_rule.ValuePlace.TheVariants as at
 use Rattle.wh_policy.specs.declared.attribute.Dim.{Dim}
 use Rattle.wh_policy.specs.declared.attribute.Dim.TheVariants.{Product, Store, Customer}
 use Rattle.wh_policy.specs.declared.policy.Policy.{Policy}
@@ -16,44 +24,54 @@ use Rattle.wh_report.specs.declared.subject.Reading.TheVariants.{AtSaleDay, Late
 use Rattle.wh_report.specs.declared.subject.Subject.{Subject}
 use Rattle.wh_report.specs.declared.subject.Subject.TheVariants.{Attribute, Month, Holiday}
 
--- what a type shows of things as they were on the day of sale
-abbrev pub was : AttributeType → Option Reading
-was RetainOriginal = Some Original
-was Overwrite = Some Latest
-was NewRow = Some AtSaleDay
-was NewAttribute = None
-was MiniDimension = Some AtSaleDay
-was MiniDimensionOutrigger = Some AtSaleDay
-was NewRowAndOverwrite = Some AtSaleDay
-was DualKeys = Some AtSaleDay
+-- which of a member's values the main column of a row shows, if it shows one
+abbrev pub main_reading : MainColumn → Option Reading
+main_reading main.Original = Some Original
+main_reading main.FirstDay = Some AtSaleDay
+main_reading main.Latest = Some Latest
+main_reading main.Nothing = None
 
--- as they are now
-abbrev pub is_now : AttributeType → Option Reading
-is_now RetainOriginal = Some Original
-is_now Overwrite = Some Latest
-is_now NewRow = None
-is_now NewAttribute = Some Latest
-is_now MiniDimension = None
-is_now MiniDimensionOutrigger = Some Latest
-is_now NewRowAndOverwrite = Some Latest
-is_now DualKeys = Some Latest
+-- and the second one
+abbrev pub second_reading : SecondColumn → Option Reading
+second_reading second.Nothing = None
+second_reading second.Prior = Some PriorValue
+second_reading second.Latest = Some Latest
 
--- and as they were before
-abbrev pub was_before : AttributeType → Option Reading
-was_before RetainOriginal = None
-was_before Overwrite = None
-was_before NewRow = None
-was_before NewAttribute = Some PriorValue
-was_before MiniDimension = None
-was_before MiniDimensionOutrigger = None
-was_before NewRowAndOverwrite = None
-was_before DualKeys = None
+-- the value on the first day of a current row is the latest
+abbrev pub current_reading : MainColumn → Option Reading
+current_reading main.Original = None
+current_reading main.FirstDay = Some Latest
+current_reading main.Latest = None
+current_reading main.Nothing = None
+
+-- what the profile of a sale shows, and the newest one of its customer
+abbrev pub profile_reading : ProfilePart → Option Reading
+profile_reading NoPart = None
+profile_reading Part = Some AtSaleDay
+profile_reading PartAndNewest = Some AtSaleDay
+
+abbrev pub newest_reading : ProfilePart → Option Reading
+newest_reading NoPart = None
+newest_reading Part = None
+newest_reading PartAndNewest = Some Latest
+
+-- what a sale finds at a place
+abbrev pub place_reading : TypeRule → ValuePlace → Option Reading
+place_reading r at.Main = main_reading r.main
+place_reading r at.Second = second_reading r.second
+place_reading r at.CurrentMain = current_reading r.main
+place_reading r at.SaleProfile = profile_reading r.profile
+place_reading r at.NewestProfile = newest_reading r.profile
+
+-- the place where a mode looks, if the type answers it
+abbrev pub mode_place : TypeRule → Mode → Option ValuePlace
+mode_place r Was = r.was
+mode_place r Is = r.is_now
+mode_place r Prior = r.prior
 
 -- what a mode shows of an attribute of a type, if the type has this reading
 abbrev pub type_reading : AttributeType → Mode → Option Reading
-type_reading kind Was = was kind
-type_reading kind Is = is_now kind
-type_reading kind Prior = was_before kind
+type_reading kind mode = option_and_then (place_reading (rule kind)) (mode_place (rule kind) mode)
 
 -- of the day of sale there is one value, which was and is the same, and none before it
 abbrev pub date_reading : Mode → Option Reading

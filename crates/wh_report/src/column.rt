@@ -1,10 +1,10 @@
 //! Where the labels of sales stand in the tables of the warehouse.
 
 ghost use Rattle.std.specs.Prelude.{◌≡◌};
-ghost use Rattle.wh_report.specs.Joined.{attribute_column, column_of, label_column_fact_key, label_column_table, table_of_dim};
+ghost use Rattle.wh_report.specs.Joined.{reading_place, place_column, attribute_column, column_of, label_column_fact_key, label_column_table, table_of_dim};
 
 use crate::subject::{Reading, SlotAttribute, Subject};
-use wh_policy::{AttributeType, Dim};
+use wh_policy::{Dim, TypeRule, ValuePlace};
 use wh_rows::{FactColumn, Table};
 
 /// The column that has the labels, and by it the key of a fact that leads to its row. A slot's place is counted from 0.
@@ -37,21 +37,37 @@ pub fn column_of(subject: Subject, reading: Reading) -> LabelColumn
     }
 }
 
+/// Where a type keeps what a reading shows.
+fn reading_place(rule: TypeRule, reading: Reading) -> Option<ValuePlace>
+    ensures { result ≡ reading_place rule reading }
+{
+    match reading {
+        Reading::AtSaleDay | Reading::Original => rule.was,
+        Reading::Latest => rule.is_now,
+        Reading::PriorValue => rule.prior,
+    }
+}
+
+/// The column of a slot at a place.
+fn place_column(dim: Dim, slot: usize, place: ValuePlace) -> LabelColumn
+    ensures { result ≡ place_column dim slot place }
+{
+    match place {
+        ValuePlace::Main => LabelColumn::Main(dim, slot),
+        ValuePlace::Second => LabelColumn::Second(dim, slot),
+        ValuePlace::CurrentMain => LabelColumn::CurrentMain(dim, slot),
+        ValuePlace::SaleProfile => LabelColumn::FactProfile(slot),
+        ValuePlace::NewestProfile => LabelColumn::CurrentProfile(slot),
+    }
+}
+
 fn attribute_column(attribute: SlotAttribute, reading: Reading) -> LabelColumn
     ensures { result ≡ attribute_column attribute reading }
 {
     let SlotAttribute { dim, place, kind } = attribute;
-    match (kind, reading) {
-        (AttributeType::NewAttribute, Reading::PriorValue)
-        | (AttributeType::NewRowAndOverwrite, Reading::Latest) => LabelColumn::Second(dim, place),
-        (AttributeType::DualKeys, Reading::Latest) => LabelColumn::CurrentMain(dim, place),
-        (AttributeType::MiniDimensionOutrigger, Reading::Latest) => {
-            LabelColumn::CurrentProfile(place)
-        }
-        (AttributeType::MiniDimension | AttributeType::MiniDimensionOutrigger, _) => {
-            LabelColumn::FactProfile(place)
-        }
-        _ => LabelColumn::Main(dim, place),
+    match reading_place(kind.rule(), reading) {
+        Some(found) => place_column(dim, place, found),
+        None => LabelColumn::Main(dim, place),
     }
 }
 

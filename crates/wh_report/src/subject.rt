@@ -1,10 +1,12 @@
 //! What a report can be asked by, and what it shows of it.
 
 ghost use Rattle.std.specs.Prelude.{◌≡◌, option_map};
-ghost use Rattle.wh_report.specs.Subject.{after, attribute_in, subject_in, type_reading, reading_of};
+ghost use Rattle.wh_report.specs.Subject.{after, attribute_in, subject_in, main_reading, second_reading, current_reading, profile_reading, newest_reading, place_reading, mode_place, type_reading, reading_of};
 
 use wh_batch::Mode;
-use wh_policy::{AttributeType, Dim, Policy};
+use wh_policy::{
+    AttributeType, Dim, MainColumn, Policy, ProfilePart, SecondColumn, TypeRule, ValuePlace,
+};
 
 /// Which of a member's values a reading shows.
 #[derive(Clone, Copy, Debug, PartialEq, Eq)]
@@ -41,31 +43,91 @@ pub enum Subject {
     Holiday,
 }
 
+/// Which of a member's values the main column of a row shows, if it shows one.
+fn main_reading(column: MainColumn) -> Option<Reading>
+    ensures { result ≡ main_reading column }
+{
+    match column {
+        MainColumn::Original => Some(Reading::Original),
+        MainColumn::FirstDay => Some(Reading::AtSaleDay),
+        MainColumn::Latest => Some(Reading::Latest),
+        MainColumn::Nothing => None,
+    }
+}
+
+/// And the second one.
+fn second_reading(column: SecondColumn) -> Option<Reading>
+    ensures { result ≡ second_reading column }
+{
+    match column {
+        SecondColumn::Nothing => None,
+        SecondColumn::Prior => Some(Reading::PriorValue),
+        SecondColumn::Latest => Some(Reading::Latest),
+    }
+}
+
+/// The value on the first day of a current row is the latest.
+fn current_reading(column: MainColumn) -> Option<Reading>
+    ensures { result ≡ current_reading column }
+{
+    match column {
+        MainColumn::FirstDay => Some(Reading::Latest),
+        MainColumn::Original | MainColumn::Latest | MainColumn::Nothing => None,
+    }
+}
+
+/// What the profile of a sale shows.
+fn profile_reading(part: ProfilePart) -> Option<Reading>
+    ensures { result ≡ profile_reading part }
+{
+    match part {
+        ProfilePart::NoPart => None,
+        ProfilePart::Part | ProfilePart::PartAndNewest => Some(Reading::AtSaleDay),
+    }
+}
+
+/// And the newest one of its customer.
+fn newest_reading(part: ProfilePart) -> Option<Reading>
+    ensures { result ≡ newest_reading part }
+{
+    match part {
+        ProfilePart::NoPart | ProfilePart::Part => None,
+        ProfilePart::PartAndNewest => Some(Reading::Latest),
+    }
+}
+
+/// What a sale finds at a place.
+fn place_reading(rule: TypeRule, place: ValuePlace) -> Option<Reading>
+    ensures { result ≡ place_reading rule place }
+{
+    match place {
+        ValuePlace::Main => main_reading(rule.main),
+        ValuePlace::Second => second_reading(rule.second),
+        ValuePlace::CurrentMain => current_reading(rule.main),
+        ValuePlace::SaleProfile => profile_reading(rule.profile),
+        ValuePlace::NewestProfile => newest_reading(rule.profile),
+    }
+}
+
+/// The place where a mode looks, if the type answers it.
+fn mode_place(rule: TypeRule, mode: Mode) -> Option<ValuePlace>
+    ensures { result ≡ mode_place rule mode }
+{
+    match mode {
+        Mode::Was => rule.was,
+        Mode::Is => rule.is_now,
+        Mode::Prior => rule.prior,
+    }
+}
+
 /// What is shown in a mode of an attribute of a type, if the type has this reading.
 fn type_reading(kind: AttributeType, mode: Mode) -> Option<Reading>
     ensures { result ≡ type_reading kind mode }
 {
-    match (mode, kind) {
-        (Mode::Was | Mode::Is, AttributeType::RetainOriginal) => Some(Reading::Original),
-        (Mode::Was | Mode::Is, AttributeType::Overwrite) => Some(Reading::Latest),
-        (Mode::Was, AttributeType::NewRow | AttributeType::MiniDimension) => {
-            Some(Reading::AtSaleDay)
-        }
-        (Mode::Is, AttributeType::NewAttribute) => Some(Reading::Latest),
-        (Mode::Prior, AttributeType::NewAttribute) => Some(Reading::PriorValue),
-        (
-            Mode::Was,
-            AttributeType::MiniDimensionOutrigger
-            | AttributeType::NewRowAndOverwrite
-            | AttributeType::DualKeys,
-        ) => Some(Reading::AtSaleDay),
-        (
-            Mode::Is,
-            AttributeType::MiniDimensionOutrigger
-            | AttributeType::NewRowAndOverwrite
-            | AttributeType::DualKeys,
-        ) => Some(Reading::Latest),
-        _ => None,
+    let rule = kind.rule();
+    match mode_place(rule, mode) {
+        Some(place) => place_reading(rule, place),
+        None => None,
     }
 }
 
