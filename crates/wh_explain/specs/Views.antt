@@ -1,12 +1,14 @@
 -- The SQL of views over the star, in which attributes have their names.
-use Rattle.std.specs.Prelude.{ℕ, ◌+◌, List, [], ◌∷◌, ◌++◌, codes, flat_map, Option, Some, None}
+use Rattle.std.specs.Prelude.{ℕ, ◌+◌, List, [], ◌∷◌, ◌++◌, codes, flat_map, Option, Some, None, option_map}
 use Rattle.std.specs.Fmt.{decimal}
 use Rattle.std.specs.List.{join_by}
 use Rattle.wh_policy.specs.Policy.{policy_attributes}
+use Rattle.wh_policy.specs.Types.{rule}
 use Rattle.wh_policy.specs.Words.{dim_word}
 use Rattle.wh_policy.specs.declared.attribute.Attribute.{Attribute}
 use Rattle.wh_policy.specs.declared.attribute.AttributeType.{AttributeType}
-use Rattle.wh_policy.specs.declared.attribute.AttributeType.TheVariants.{RetainOriginal, Overwrite, NewRow, NewAttribute, MiniDimension, MiniDimensionOutrigger, NewRowAndOverwrite, DualKeys}
+use Rattle.wh_policy.specs.declared.type_rule.ValuePlace.{ValuePlace}
+use Rattle.wh_policy.specs.declared.type_rule.ValuePlace.TheVariants as at
 use Rattle.wh_policy.specs.declared.attribute.Dim.{Dim}
 use Rattle.wh_policy.specs.declared.attribute.Dim.TheVariants.{Product, Store, Customer}
 use Rattle.wh_policy.specs.declared.format.Format.{Format}
@@ -26,38 +28,25 @@ pub record ViewColumn : Type 0 where
 
 -- ---- which column of a sale's rows has the value of an attribute
 
+-- by the place where a sale finds it
+abbrev pub place_value : ValuePlace → ValueColumn
+place_value at.Main = Main
+place_value at.Second = Second
+place_value at.CurrentMain = Main
+place_value at.SaleProfile = Profile
+place_value at.NewestProfile = Profile
+
 -- As it was: the sale is joined with the rows and the profile of its day. Type 3 keeps no value of that day.
 abbrev pub value_was : AttributeType → Option ValueColumn
-value_was RetainOriginal = Some Main
-value_was Overwrite = Some Main
-value_was NewRow = Some Main
-value_was NewAttribute = None
-value_was MiniDimension = Some Profile
-value_was MiniDimensionOutrigger = Some Profile
-value_was NewRowAndOverwrite = Some Main
-value_was DualKeys = Some Main
+value_was kind = option_map place_value (rule kind).was
 
 -- As it is: the sale is joined with the current rows of its members, and with the profile that the customer's names. Types 2 and 4 are not asked as they are.
 abbrev pub value_is : AttributeType → Option ValueColumn
-value_is RetainOriginal = Some Main
-value_is Overwrite = Some Main
-value_is NewRow = None
-value_is NewAttribute = Some Main
-value_is MiniDimension = None
-value_is MiniDimensionOutrigger = Some Profile
-value_is NewRowAndOverwrite = Some Second
-value_is DualKeys = Some Main
+value_is kind = option_map place_value (rule kind).is_now
 
 -- and as it was before the newest change, beside what is
 abbrev pub value_prior : AttributeType → Option ValueColumn
-value_prior RetainOriginal = None
-value_prior Overwrite = None
-value_prior NewRow = None
-value_prior NewAttribute = Some Second
-value_prior MiniDimension = None
-value_prior MiniDimensionOutrigger = None
-value_prior NewRowAndOverwrite = None
-value_prior DualKeys = None
+value_prior kind = option_map place_value (rule kind).prior
 
 -- ---- the columns of a view of sales
 

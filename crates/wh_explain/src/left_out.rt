@@ -5,7 +5,7 @@ use std::collections::BTreeMap;
 use wh_batch::{CommandKind, Kind};
 use wh_day::{Value, Values};
 use wh_history::Edit;
-use wh_policy::{Attribute, AttributeType, Dim, Policy};
+use wh_policy::{Attribute, AttributeType, Dim, MainColumn, Policy};
 use wh_rows::{ChangeKey, ChangeRow};
 
 /// What a record says of its member.
@@ -133,10 +133,10 @@ impl SparseRecord {
         if self.own.gives(slot) || !self.was_given(slot) {
             return false;
         }
-        match kind {
-            AttributeType::RetainOriginal => false,
-            AttributeType::Overwrite | AttributeType::NewAttribute => self.behind.is_none(),
-            _ => true,
+        match kind.rule().main {
+            MainColumn::Original => false,
+            MainColumn::Latest => self.behind.is_none(),
+            MainColumn::FirstDay | MainColumn::Nothing => true,
         }
     }
 }

@@ -1,13 +1,13 @@
 //! The SQL of views that have the names of the attributes.
 
-ghost use Rattle.std.specs.Prelude.{◌≡◌, ◌++◌, Some, IfOk, OnOk};
+ghost use Rattle.std.specs.Prelude.{◌≡◌, ◌++◌, Some, option_map, IfOk, OnOk};
 ghost use Rattle.std.specs.Fmt.{decimal};
-ghost use Rattle.wh_explain.specs.Views.{value_was, value_is, value_prior, value_text, attribute_name, shown_value, attribute_columns, columns_from, dimension_columns, all_dimension_columns, column_text, columns_text, list_text, first_column, day_columns, figures, discounts, month_columns, view_name, view_head, view_source, sales_with_days, joins, sales_view, month_view, views_text};
+ghost use Rattle.wh_explain.specs.Views.{place_value, value_was, value_is, value_prior, value_text, attribute_name, shown_value, attribute_columns, columns_from, dimension_columns, all_dimension_columns, column_text, columns_text, list_text, first_column, day_columns, figures, discounts, month_columns, view_name, view_head, view_source, sales_with_days, joins, sales_view, month_view, views_text};
 ghost use Rattle.wh_explain.specs.declared.views.SalesView.TheVariants.{AsIs};
 
 use crate::shown::push_number;
 use std::alloc::{AllocError, Global};
-use wh_policy::{Attribute, AttributeType, Dim, Format, Policy};
+use wh_policy::{Attribute, AttributeType, Dim, Format, Policy, ValuePlace};
 
 /// A view with a row for each sale.
 #[derive(Clone, Copy)]
@@ -29,36 +29,42 @@ enum ValueColumn {
     Profile,
 }
 
+/// That of the place where a sale finds it.
+fn place_value(place: ValuePlace) -> ValueColumn
+    ensures { result ≡ place_value place }
+{
+    match place {
+        ValuePlace::Main | ValuePlace::CurrentMain => ValueColumn::Main,
+        ValuePlace::Second => ValueColumn::Second,
+        ValuePlace::SaleProfile | ValuePlace::NewestProfile => ValueColumn::Profile,
+    }
+}
+
+fn value_at(place: Option<ValuePlace>) -> Option<ValueColumn>
+    ensures { result ≡ option_map place_value place }
+{
+    match place {
+        Some(place) => Some(place_value(place)),
+        None => None,
+    }
+}
+
 fn value_was(kind: AttributeType) -> Option<ValueColumn>
     ensures { result ≡ value_was kind }
 {
-    match kind {
-        AttributeType::NewAttribute => None,
-        AttributeType::MiniDimension | AttributeType::MiniDimensionOutrigger => {
-            Some(ValueColumn::Profile)
-        }
-        _ => Some(ValueColumn::Main),
-    }
+    value_at(kind.rule().was)
 }
 
 fn value_is(kind: AttributeType) -> Option<ValueColumn>
     ensures { result ≡ value_is kind }
 {
-    match kind {
-        AttributeType::NewRow | AttributeType::MiniDimension => None,
-        AttributeType::MiniDimensionOutrigger => Some(ValueColumn::Profile),
-        AttributeType::NewRowAndOverwrite => Some(ValueColumn::Second),
-        _ => Some(ValueColumn::Main),
-    }
+    value_at(kind.rule().is_now)
 }
 
 fn value_prior(kind: AttributeType) -> Option<ValueColumn>
     ensures { result ≡ value_prior kind }
 {
-    match kind {
-        AttributeType::NewAttribute => Some(ValueColumn::Second),
-        _ => None,
-    }
+    value_at(kind.rule().prior)
 }
 
 /// A slot's column of a table.
