@@ -11,11 +11,23 @@ use Rattle.wh_policy.specs.Types.{rule, every_type, attribute_type_number, attri
 -- each type is found by its number
 pub attribute_type_of_number-again : (kind : AttributeType) → attribute_type_of_number (pos (attribute_type_number kind)) ≡ Some kind
 attribute_type_of_number-again RetainOriginal = refl
-attribute_type_of_number-again _ = refl
+attribute_type_of_number-again Overwrite = refl
+attribute_type_of_number-again NewRow = refl
+attribute_type_of_number-again NewAttribute = refl
+attribute_type_of_number-again MiniDimension = refl
+attribute_type_of_number-again MiniDimensionOutrigger = refl
+attribute_type_of_number-again NewRowAndOverwrite = refl
+attribute_type_of_number-again DualKeys = refl
 
 pub attribute_type_number-small : (kind : AttributeType) → attribute_type_number kind ≤ 7
 attribute_type_number-small RetainOriginal = omega arith
-attribute_type_number-small _ = omega arith
+attribute_type_number-small Overwrite = omega arith
+attribute_type_number-small NewRow = omega arith
+attribute_type_number-small NewAttribute = omega arith
+attribute_type_number-small MiniDimension = omega arith
+attribute_type_number-small MiniDimensionOutrigger = omega arith
+attribute_type_number-small NewRowAndOverwrite = omega arith
+attribute_type_number-small DualKeys = omega arith
 
 -- each number up to 7 has a type
 pub type_with : (n : ℕ) → n ≤ 7 → (kind : AttributeType) × (attribute_type_number kind ≡ n)
@@ -67,8 +79,20 @@ outrigger_number _ h = absurd cc
 
 pub not_four : (kind : AttributeType) → is_mini kind ≡ false → attribute_type_number kind ≢ 4
 not_four MiniDimension h e = cc
-not_four _ h e = cc
+not_four RetainOriginal h e = cc
+not_four Overwrite h e = cc
+not_four NewRow h e = cc
+not_four NewAttribute h e = cc
+not_four MiniDimensionOutrigger h e = cc
+not_four NewRowAndOverwrite h e = cc
+not_four DualKeys h e = cc
 
 pub not_five : (kind : AttributeType) → is_outrigger kind ≡ false → attribute_type_number kind ≢ 5
 not_five MiniDimensionOutrigger h e = cc
-not_five _ h e = cc
+not_five RetainOriginal h e = cc
+not_five Overwrite h e = cc
+not_five NewRow h e = cc
+not_five NewAttribute h e = cc
+not_five MiniDimension h e = cc
+not_five NewRowAndOverwrite h e = cc
+not_five DualKeys h e = cc
