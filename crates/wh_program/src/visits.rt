@@ -55,31 +55,34 @@ fn run_over<H: Host, W: Write>(
     ensures others { SparesOthers (H.stores host.old) (H.stores host.new) (Some file.now) }
     ensures shut { RunsShut (H.shut host.old) (H.holds host.old) (host.new ≡ host.old) (λ told. Prints (W.contents out.old) (W.contents out.new) (status_code result) (printed told)) (Over file.now (work_in work.entry)) }
 {
-    let answer = match work {
-        Work::Deliver { manifest } => return deliver(alloc, file, manifest, host, out),
-        Work::Dump(table) => return print_dump(alloc, file, table, host, out),
-        Work::Session => return print(out, Status::Refused, SESSION_LINE),
-        Work::Init { policy } => init(alloc, file, policy, host),
+    match work {
+        Work::Init { policy } => print_answer(out, init(alloc, file, policy, host)),
         Work::Load { kind, id, path } => {
-            send(alloc, file, CommandKind::Batch(kind), id, path, host)
+            let kind = CommandKind::Batch(kind);
+            print_answer(out, send(alloc, file, kind, id, path, host))
         }
         Work::Migrate { id, policy } => {
-            send(alloc, file, CommandKind::Migration, id, policy, host)
+            let kind = CommandKind::Migration;
+            print_answer(out, send(alloc, file, kind, id, policy, host))
         }
-        Work::Upgrade { id } => upgrade(alloc, file, id, host),
-        Work::Plan { kind, id, path } => plan(alloc, file, kind, id, path, host),
-        Work::Explain { kind, path } => explain(alloc, file, kind, path, host),
-        Work::ExplainInit { policy } => explain_init(alloc, policy, host),
-        Work::Records { dim, from } => records(alloc, file, dim, from, host),
-        Work::Query(asked) => visit_query(alloc, file, asked, host),
-        Work::Report(asked) => visit_report(alloc, file, asked, host),
-        Work::Reports { list } => reports(alloc, file, list, host),
-        Work::Queries { list } => queries(alloc, file, list, host),
-        Work::Views => views(alloc, file, host),
-        Work::Check => check(alloc, file, host),
-        Work::Status => status(alloc, file, host),
-    };
-    print_answer(out, answer)
+        Work::Upgrade { id } => print_answer(out, upgrade(alloc, file, id, host)),
+        Work::Deliver { manifest } => deliver(alloc, file, manifest, host, out),
+        Work::Plan { kind, id, path } => {
+            print_answer(out, plan(alloc, file, kind, id, path, host))
+        }
+        Work::Explain { kind, path } => print_answer(out, explain(alloc, file, kind, path, host)),
+        Work::ExplainInit { policy } => print_answer(out, explain_init(alloc, policy, host)),
+        Work::Records { dim, from } => print_answer(out, records(alloc, file, dim, from, host)),
+        Work::Query(asked) => print_answer(out, visit_query(alloc, file, asked, host)),
+        Work::Report(asked) => print_answer(out, visit_report(alloc, file, asked, host)),
+        Work::Reports { list } => print_answer(out, reports(alloc, file, list, host)),
+        Work::Queries { list } => print_answer(out, queries(alloc, file, list, host)),
+        Work::Dump(table) => print_dump(alloc, file, table, host, out),
+        Work::Views => print_answer(out, views(alloc, file, host)),
+        Work::Check => print_answer(out, check(alloc, file, host)),
+        Work::Status => print_answer(out, status(alloc, file, host)),
+        Work::Session => print(out, Status::Refused, SESSION_LINE),
+    }
 }
 
 /// Does what the words of a command ask for, and prints the answer.

@@ -1,16 +1,19 @@
 use Rattle.std.proofs.Common.{Ok, refl, inl, inr}
 use Rattle.wh_program.specs.Answer.{refused, session_line}
 use Rattle.std.proofs.lemmas.Result.{IfOk-weaker}
-use Rattle.wh_program.proofs.visits.run_task.Goals as goal
-
-pub returns-in-Trial-clause-runs : goal.returns-in-Trial-clause-runs
-returns-in-Trial-clause-runs g c = rw c.in-Trial.is (refl, (c.trial.result, c.trial.ensures, c.print_answer.ensures))
+use Rattle.wh_program.proofs.visits.run_over.Goals as goal
 
 pub returns-in-Init-clause-runs : goal.returns-in-Init-clause-runs
 returns-in-Init-clause-runs g c = rw c.in-Init.is (
-  (λ content stood. (c.init.result, c.init.ensures.made content stood, c.print_answer-in-Init.ensures)),
-  (c.init.result, c.init.ensures.judged, c.print_answer-in-Init.ensures),
+  (λ content stood. (c.init.result, c.init.ensures.made content stood, c.print_answer.ensures)),
+  (c.init.result, c.init.ensures.judged, c.print_answer.ensures),
 )
+
+pub returns-in-Load-clause-runs : goal.returns-in-Load-clause-runs
+returns-in-Load-clause-runs g c = rw c.in-Load.is (λ content stood. (c.send.result, c.send.ensures.answers content stood, c.print_answer-in-Load.ensures))
+
+pub returns-in-Migrate-clause-runs : goal.returns-in-Migrate-clause-runs
+returns-in-Migrate-clause-runs g c = rw c.in-Migrate.is (λ content stood. (c.send-in-Migrate.result, c.send-in-Migrate.ensures.answers content stood, c.print_answer-in-Migrate.ensures))
 
 pub returns-in-ExplainInit-clause-runs : goal.returns-in-ExplainInit-clause-runs
 returns-in-ExplainInit-clause-runs g c = rw c.in-ExplainInit.is (refl, (c.explain_init.result, c.explain_init.ensures, c.print_answer-in-ExplainInit.ensures))
@@ -22,7 +25,7 @@ pub returns-in-Dump-clause-runs : goal.returns-in-Dump-clause-runs
 returns-in-Dump-clause-runs g c = rw c.in-Dump.is ((λ content of_commands stood. c.print_dump.ensures.answers content of_commands stood), c.print_dump.ensures.leaves)
 
 pub returns-in-Init-clause-shut : goal.returns-in-Init-clause-shut
-returns-in-Init-clause-shut g c = rw c.in-Init.is (λ shut. let is = c.init.ensures.shut shut in (is.0, (c.init.result, is.1, c.print_answer-in-Init.ensures)))
+returns-in-Init-clause-shut g c = rw c.in-Init.is (λ shut. let is = c.init.ensures.shut shut in (is.0, (c.init.result, is.1, c.print_answer.ensures)))
 
 pub returns-in-Load-clause-shut : goal.returns-in-Load-clause-shut
 returns-in-Load-clause-shut g c = rw c.in-Load.is (λ shut. let is = c.send.ensures.shut shut in (is.0, (c.send.result, is.1, c.print_answer-in-Load.ensures)))
