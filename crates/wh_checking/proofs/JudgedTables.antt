@@ -1,9 +1,7 @@
 -- One table after the other, to a verdict.
 use Rattle.std.proofs.Common.{◌≡◌, ◌+◌, ◌≤◌, ◌<◌, ℕ, zero, suc, Bool, true, false, cond, nat_eq, List, [], ◌∷◌, Some, None, Ok, Err, Result, refl, sym, ap, subst, ◌∙◌, arith}
 use Rattle.std.specs.Prelude.{nat_lt, slice_index_or}
-use Rattle.wh_policy.specs.Formats.{is_two}
 use Rattle.wh_policy.specs.declared.format.Format.{Format}
-use Rattle.wh_policy.specs.declared.format.Format.TheVariants.{One, Two}
 use Rattle.wh_history.specs.Accepted.{Accepted}
 use Rattle.wh_history.specs.Tables.{Limits}
 use Rattle.wh_model.specs.Defined.{meta_at}
@@ -13,7 +11,7 @@ use Rattle.wh_rows.specs.declared.table.Table.{Table}
 use Rattle.wh_rows.specs.declared.table.Table.TheVariants.{Meta, Command, Member, Change, Product, Store, Customer, Profile, Calendar, Fact, Fact2, Void}
 use Rattle.wh_sql.specs.declared.fault.ReadFault.{ReadFault}
 use Rattle.wh_sql.specs.declared.fault.ReadFault.TheVariants.{Memory, Damaged, Store as Refuses}
-use Rattle.wh_admission.specs.Checked.{AreRowsAt, Covers, IsDefined, SaysLimits, SaysCommands, table_place, IsFirstWrong}
+use Rattle.wh_admission.specs.Checked.{AreRowsAt, IsDefined, SaysLimits, SaysCommands, table_place, IsFirstWrong}
 use Rattle.wh_checking.specs.Judged.{IsJudged}
 use Rattle.wh_checking.specs.declared.verdict.Verdict.{Verdict}
 use Rattle.wh_checking.specs.declared.verdict.Verdict.TheVariants.{Clean, Wrong}
@@ -26,13 +24,6 @@ use Rattle.wh_checking.proofs.Assembling.{damaged_first, none_before_meta, meta_
 use Rattle.wh_checking.specs.Meta.{AreLimitsSaid}
 use Rattle.wh_checking.specs.Judging.{IsDefinedIn, IsOfDamageIn}
 use Rattle.wh_checking.specs.Replica.{HoldsAll, TellsNone, IsReplicated}
-
--- ---- formats
-
--- a schema that has the tables of the second format, where that is said
-pub second_covered : (has said : Format) → Covers has said → is_two said ≡ true → is_two has ≡ true
-second_covered has One covers is = absurd (cc)
-second_covered has Two covers is = ap is_two covers
 
 -- ---- places
 

@@ -29,6 +29,7 @@ use wh_store::{PagedTable, ReadFault, Tables};
 const JUDGED_FIRST: usize = 2;
 
 /// Compares a table of a format with its twin in the second warehouse.
+#[derive(Drop)]
 struct HoldsTheSame {
     format: Format,
 }
