@@ -427,6 +427,7 @@ fn with_more<'a>(
     }
 }
 
+/// The command that a subcommand describes: its name, its operands, and what it takes beside them.
 fn subcommand_app<'a>(alloc: Global, subcommand: &Subcommand<'a>) -> Result<Command<'a>, AllocError>
     ensures app { IfOk result (λ c. app_of c ≡ subcommand_app subcommand.now) }
     ensures local { IfOk result (λ c. (out-Command c).has_globals ≡ false) }

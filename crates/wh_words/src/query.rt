@@ -1,6 +1,6 @@
 //! The words of a query.
 
-ghost use Rattle.std.specs.Prelude.{◌≡◌, IfOk, Some, length};
+ghost use Rattle.std.specs.Prelude.{◌≡◌, ℕ, IfOk, List, Option, Some, length};
 ghost use Rattle.wh_batch.specs.QueryWords.{column_given, condition_given};
 ghost use Rattle.wh_words.specs.Given.{all_words_in, as_given, given_in, words_in};
 ghost use Rattle.wh_words.specs.Request.{asked_in};
@@ -28,62 +28,58 @@ pub struct AskedQuery<'a> {
     pub as_table: bool,
 }
 
-/// The columns that words say, or the first word that says none.
-fn columns_given<'a>(
+/// What one word of a query says.
+trait OfWord<'a>: Drop {
+    // What a word says, if it says anything.
+    ghost said: { List ℕ → Option Self };
+
+    /// Reads a word.
+    fn of_word(word: &'a str) -> Option<Self>
+        ensures { result ≡ said word.now };
+}
+
+impl<'a> OfWord<'a> for ColumnWords<'a> {
+    ghost said = { column_given };
+
+    fn of_word(word: &'a str) -> Option<ColumnWords<'a>> {
+        ColumnWords::read(word)
+    }
+}
+
+impl<'a> OfWord<'a> for ConditionWords<'a> {
+    ghost said = { condition_given };
+
+    fn of_word(word: &'a str) -> Option<ConditionWords<'a>> {
+        ConditionWords::read(word)
+    }
+}
+
+/// What each of these words says, or the first word that says nothing.
+fn each_given<'a, G: OfWord<'a>>(
     alloc: Global,
     words: &[&'a str],
-) -> Result<Result<Vec<ColumnWords<'a>>, &'a str>, AllocError>
-    ensures { IfOk result (λ given. as_given given ≡ each_given column_given (words_in words.now)) }
+) -> Result<Result<Vec<G>, &'a str>, AllocError>
+    ensures { IfOk result (λ given. as_given given ≡ each_given G.said (words_in words.now)) }
 {
     let mut given = Vec::new(alloc);
     'words: for word in words {
-        match ColumnWords::read(*word) {
-            Some(column) => given.push(column)?,
+        match G::of_word(*word) {
+            Some(part) => given.push(part)?,
             None => return Ok(Err(*word)),
         }
     }
     Ok(Ok(given))
 }
 
-/// The conditions that words say, or the first word that says none.
-fn conditions_given<'a>(
-    alloc: Global,
-    words: &[&'a str],
-) -> Result<Result<Vec<ConditionWords<'a>>, &'a str>, AllocError>
-    ensures { IfOk result (λ given. as_given given ≡ each_given condition_given (words_in words.now)) }
-{
-    let mut given = Vec::new(alloc);
-    'words: for word in words {
-        match ConditionWords::read(*word) {
-            Some(condition) => given.push(condition)?,
-            None => return Ok(Err(*word)),
-        }
-    }
-    Ok(Ok(given))
-}
-
-/// The columns that the words for BY say, or the first word that says none.
-fn all_columns<'a>(
+/// What each of the words of an operand or option says, or the first word that says nothing.
+fn all_given<'a, G: OfWord<'a>>(
     alloc: Global,
     words: Option<&[&'a str]>,
-) -> Result<Result<Vec<ColumnWords<'a>>, &'a str>, AllocError>
-    ensures { IfOk result (λ given. as_given given ≡ each_given column_given (all_words_in words.entry)) }
+) -> Result<Result<Vec<G>, &'a str>, AllocError>
+    ensures { IfOk result (λ given. as_given given ≡ each_given G.said (all_words_in words.entry)) }
 {
     match words {
-        Some(words) => columns_given(alloc, words),
-        None => Ok(Ok(Vec::new(alloc))),
-    }
-}
-
-/// The conditions that the words of an option say, or the first word that says none.
-fn all_conditions<'a>(
-    alloc: Global,
-    words: Option<&[&'a str]>,
-) -> Result<Result<Vec<ConditionWords<'a>>, &'a str>, AllocError>
-    ensures { IfOk result (λ given. as_given given ≡ each_given condition_given (all_words_in words.entry)) }
-{
-    match words {
-        Some(words) => conditions_given(alloc, words),
+        Some(words) => each_given(alloc, words),
         None => Ok(Ok(Vec::new(alloc))),
     }
 }
@@ -106,7 +102,7 @@ fn query_by<'a>(
 ) -> Result<Request<'a>, AllocError>
     ensures { IfOk result (λ request. asked_in request ≡ Some (asked (OfFile (λ given. query_by given columns.entry.items)) (given_in given.now))) }
 {
-    match all_conditions(alloc, words_for(given, "WHERE"))? {
+    match all_given(alloc, words_for(given, "WHERE"))? {
         Ok(conditions) => {
             let asked = AskedQuery {
                 columns,
@@ -125,7 +121,7 @@ fn query_by<'a>(
 fn query_of<'a>(alloc: Global, given: &ArgMatches<'a>) -> Result<Request<'a>, AllocError>
     ensures { IfOk result (λ request. asked_in request ≡ Some (asked (OfFile query_of) (given_in given.now))) }
 {
-    match all_columns(alloc, words_for(given, "BY"))? {
+    match all_given(alloc, words_for(given, "BY"))? {
         Ok(columns) => query_by(alloc, given, columns),
         Err(word) => wrong_word(alloc, "BY", word, COLUMNS),
     }
