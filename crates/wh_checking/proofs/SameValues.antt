@@ -8,7 +8,7 @@ use Rattle.sqlite_value.specs.declared.value.Value.{Value}
 use Rattle.sqlite_value.specs.declared.value.Value.TheVariants.{Null, Int, Real, Text, Blob}
 use Rattle.sqlite.specs.Order.{Row}
 use Rattle.wh_rows.specs.Holds.{Layout}
-use Rattle.wh_sql.specs.Values.{is_plain}
+use Rattle.wh_rows.specs.Keyed.{is_plain}
 use Rattle.wh_checking.specs.Alike.{same_value, same_values, AreAlike}
 
 same_is : (v w : Value) → same_value v w ≡ true → v ≡ w

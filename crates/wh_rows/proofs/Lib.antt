@@ -22,6 +22,7 @@ pub mod ColumnLemmas
 pub mod Exact
 pub mod Orders
 pub mod Places
+pub mod KeyedTables
 pub mod Queries
 pub mod OnTables
 pub mod Making

@@ -16,6 +16,7 @@ pub mod Meaning
 pub mod Columns
 pub mod Stored
 pub mod Place
+pub mod Keyed
 pub mod Making
 pub mod Firsts
 pub mod Questions

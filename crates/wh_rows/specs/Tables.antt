@@ -39,7 +39,7 @@ pub record Tables : Type 0 where
 abbrev pub no_tables : Tables
 no_tables = record { format = One; meta = empty; command = empty; member = empty; change = empty; product = empty; store = empty; customer = empty; profile = empty; calendar = empty; fact = empty; fact2 = empty; void = empty }
 
--- a table of the second format holds the map, and in the first none is there, and the map is empty
+-- A table that only the second format has: there it holds the map. In the first format it isn't there, and the map is empty.
 abbrev pub HoldsIn : {K V : Type 0} → Format → (layout : Layout K V) → Trees → FinMap layout.order V → Type 0
 HoldsIn One layout trees rows = rows ≡ empty
 HoldsIn Two layout trees rows = Holds layout trees rows

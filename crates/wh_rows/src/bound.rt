@@ -17,7 +17,7 @@ use wh_day::{DateRow, Day, Value, Values};
 use wh_history::{DimRow, Fact};
 use wh_policy::Dim;
 
-/// A key, a number or a count. `Size`: it is above 9,999,999.
+/// A key, a number or a count. `Size` comes only where it is above 9,999,999.
 pub fn number(number: u64) -> Result<ValueRef<'static>, Cause>
     ensures ok { IfOk result (λ value. owned value ≡ Int (pos number)) }
     ensures err { IfErr result (λ cause. (cause ≡ Size) × (is_number number ≡ false)) }
@@ -28,7 +28,7 @@ pub fn number(number: u64) -> Result<ValueRef<'static>, Cause>
     }
 }
 
-/// A discount, in hundredths. `Size`: it is above 999,999,999.
+/// A discount, in hundredths. `Size` comes only where it is above 999,999,999.
 fn discount(discount: u64) -> Result<ValueRef<'static>, Cause>
     ensures ok { IfOk result (λ value. owned value ≡ Int (pos discount)) }
     ensures err { IfErr result (λ cause. (cause ≡ Size) × (is_discount discount ≡ false)) }

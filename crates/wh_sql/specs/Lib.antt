@@ -4,7 +4,6 @@ pub mod Present
 pub mod Asked
 pub mod Page
 pub mod Described
-pub mod Values
 pub mod Tally
 pub mod LinkedTally
 pub mod Facts

@@ -1,6 +1,6 @@
 //! The tables: the texts of their statements, and how their rows and keys are bound.
 
-use crate::keeps::{KeyedTable, Statements};
+use crate::keyed_table::{KeyedTable, Statements};
 use crate::keys::{change_key, day_key, dim_and_number, line_key, number_key, text_key};
 use sqlite::types::ValueRef;
 use std::alloc::Global;
@@ -15,9 +15,7 @@ use wh_rows::{
 impl KeyedTable for tables::Meta {
     ghost use Rattle.wh_rows.specs.Keys.{bind_text, stands_at_text};
     ghost use Rattle.wh_rows.specs.Texts.{meta as texts};
-    ghost use Rattle.wh_rows.proofs.EachTable.Metas.{put, remove, all, get, all_stored, get_stored, count};
-    ghost use Rattle.std.specs.Prelude.{refl};
-    ghost use Rattle.wh_rows.proofs.Places.{meta as place};
+    ghost use Rattle.wh_rows.proofs.KeyedTables.{metas};
     ghost use Rattle.wh_rows.specs.declared.table.Table.TheVariants.{Meta};
 
     ghost bind = { bind_text };
@@ -54,35 +52,13 @@ impl KeyedTable for tables::Meta {
         text_key(alloc, key)
     }
 
-    ghost puts = { put };
-
-    ghost removes = { remove };
-
-    ghost lists = { all };
-
-    ghost finds = { get };
-
-    ghost counts = { count };
-
-    ghost lists_stored = { all_stored };
-
-    ghost finds_stored = { get_stored };
-
-    ghost named = { refl };
-
-    ghost harmed = { λ stored damage. damage };
-
-    ghost placed = { place };
-
-    ghost plain = { λ row. refl };
+    ghost means = { metas };
 }
 
 impl KeyedTable for tables::Command {
     ghost use Rattle.wh_rows.specs.Keys.{bind_number, stands_at_number};
     ghost use Rattle.wh_rows.specs.Texts.{command as texts};
-    ghost use Rattle.wh_rows.proofs.EachTable.Commands.{put, remove, all, get, all_stored, get_stored, count};
-    ghost use Rattle.std.specs.Prelude.{refl};
-    ghost use Rattle.wh_rows.proofs.Places.{command as place};
+    ghost use Rattle.wh_rows.proofs.KeyedTables.{commands};
     ghost use Rattle.wh_rows.specs.declared.table.Table.TheVariants.{Command};
 
     ghost bind = { bind_number };
@@ -119,35 +95,13 @@ impl KeyedTable for tables::Command {
         number_key(alloc, key)
     }
 
-    ghost puts = { put };
-
-    ghost removes = { remove };
-
-    ghost lists = { all };
-
-    ghost finds = { get };
-
-    ghost counts = { count };
-
-    ghost lists_stored = { all_stored };
-
-    ghost finds_stored = { get_stored };
-
-    ghost named = { refl };
-
-    ghost harmed = { λ stored damage. damage };
-
-    ghost placed = { place };
-
-    ghost plain = { λ row. refl };
+    ghost means = { commands };
 }
 
 impl KeyedTable for tables::Member {
     ghost use Rattle.wh_rows.specs.Keys.{bind_member, stands_at_member};
     ghost use Rattle.wh_rows.specs.Texts.{member as texts};
-    ghost use Rattle.wh_rows.proofs.EachTable.Members.{put, remove, all, get, all_stored, get_stored, count};
-    ghost use Rattle.std.specs.Prelude.{refl};
-    ghost use Rattle.wh_rows.proofs.Places.{member as place};
+    ghost use Rattle.wh_rows.proofs.KeyedTables.{members};
     ghost use Rattle.wh_rows.specs.declared.table.Table.TheVariants.{Member};
 
     ghost bind = { bind_member };
@@ -184,35 +138,13 @@ impl KeyedTable for tables::Member {
         dim_and_number(alloc, key.dim, key.durable)
     }
 
-    ghost puts = { put };
-
-    ghost removes = { remove };
-
-    ghost lists = { all };
-
-    ghost finds = { get };
-
-    ghost counts = { count };
-
-    ghost lists_stored = { all_stored };
-
-    ghost finds_stored = { get_stored };
-
-    ghost named = { refl };
-
-    ghost harmed = { λ stored damage. damage };
-
-    ghost placed = { place };
-
-    ghost plain = { λ row. refl };
+    ghost means = { members };
 }
 
 impl KeyedTable for tables::Change {
     ghost use Rattle.wh_rows.specs.Keys.{bind_change, stands_at_change};
     ghost use Rattle.wh_rows.specs.Texts.{change as texts};
-    ghost use Rattle.wh_rows.proofs.EachTable.Changes.{put, remove, all, get, all_stored, get_stored, count};
-    ghost use Rattle.std.specs.Prelude.{refl};
-    ghost use Rattle.wh_rows.proofs.Places.{change as place};
+    ghost use Rattle.wh_rows.proofs.KeyedTables.{changes};
     ghost use Rattle.wh_rows.specs.declared.table.Table.TheVariants.{Change};
 
     ghost bind = { bind_change };
@@ -249,35 +181,13 @@ impl KeyedTable for tables::Change {
         change_key(alloc, key)
     }
 
-    ghost puts = { put };
-
-    ghost removes = { remove };
-
-    ghost lists = { all };
-
-    ghost finds = { get };
-
-    ghost counts = { count };
-
-    ghost lists_stored = { all_stored };
-
-    ghost finds_stored = { get_stored };
-
-    ghost named = { refl };
-
-    ghost harmed = { λ stored damage. damage };
-
-    ghost placed = { place };
-
-    ghost plain = { λ row. refl };
+    ghost means = { changes };
 }
 
 impl KeyedTable for tables::Product {
     ghost use Rattle.wh_rows.specs.Keys.{bind_number, stands_at_number};
     ghost use Rattle.wh_rows.specs.Texts.{product as texts};
-    ghost use Rattle.wh_rows.proofs.EachTable.Products.{put, remove, all, get, all_stored, get_stored, count};
-    ghost use Rattle.std.specs.Prelude.{refl};
-    ghost use Rattle.wh_rows.proofs.Places.{product as place};
+    ghost use Rattle.wh_rows.proofs.KeyedTables.{products};
     ghost use Rattle.wh_rows.specs.declared.table.Table.TheVariants.{Product};
 
     ghost bind = { bind_number };
@@ -314,35 +224,13 @@ impl KeyedTable for tables::Product {
         number_key(alloc, key)
     }
 
-    ghost puts = { put };
-
-    ghost removes = { remove };
-
-    ghost lists = { all };
-
-    ghost finds = { get };
-
-    ghost counts = { count };
-
-    ghost lists_stored = { all_stored };
-
-    ghost finds_stored = { get_stored };
-
-    ghost named = { refl };
-
-    ghost harmed = { λ stored damage. damage };
-
-    ghost placed = { place };
-
-    ghost plain = { λ row. refl };
+    ghost means = { products };
 }
 
 impl KeyedTable for tables::Store {
     ghost use Rattle.wh_rows.specs.Keys.{bind_number, stands_at_number};
     ghost use Rattle.wh_rows.specs.Texts.{store as texts};
-    ghost use Rattle.wh_rows.proofs.EachTable.Stores.{put, remove, all, get, all_stored, get_stored, count};
-    ghost use Rattle.std.specs.Prelude.{refl};
-    ghost use Rattle.wh_rows.proofs.Places.{store as place};
+    ghost use Rattle.wh_rows.proofs.KeyedTables.{stores};
     ghost use Rattle.wh_rows.specs.declared.table.Table.TheVariants.{Store};
 
     ghost bind = { bind_number };
@@ -379,35 +267,13 @@ impl KeyedTable for tables::Store {
         number_key(alloc, key)
     }
 
-    ghost puts = { put };
-
-    ghost removes = { remove };
-
-    ghost lists = { all };
-
-    ghost finds = { get };
-
-    ghost counts = { count };
-
-    ghost lists_stored = { all_stored };
-
-    ghost finds_stored = { get_stored };
-
-    ghost named = { refl };
-
-    ghost harmed = { λ stored damage. damage };
-
-    ghost placed = { place };
-
-    ghost plain = { λ row. refl };
+    ghost means = { stores };
 }
 
 impl KeyedTable for tables::Customer {
     ghost use Rattle.wh_rows.specs.Keys.{bind_number, stands_at_number};
     ghost use Rattle.wh_rows.specs.Texts.{customer as texts};
-    ghost use Rattle.wh_rows.proofs.EachTable.Customers.{put, remove, all, get, all_stored, get_stored, count};
-    ghost use Rattle.std.specs.Prelude.{refl};
-    ghost use Rattle.wh_rows.proofs.Places.{customer as place};
+    ghost use Rattle.wh_rows.proofs.KeyedTables.{customers};
     ghost use Rattle.wh_rows.specs.declared.table.Table.TheVariants.{Customer};
 
     ghost bind = { bind_number };
@@ -444,35 +310,13 @@ impl KeyedTable for tables::Customer {
         number_key(alloc, key)
     }
 
-    ghost puts = { put };
-
-    ghost removes = { remove };
-
-    ghost lists = { all };
-
-    ghost finds = { get };
-
-    ghost counts = { count };
-
-    ghost lists_stored = { all_stored };
-
-    ghost finds_stored = { get_stored };
-
-    ghost named = { refl };
-
-    ghost harmed = { λ stored damage. damage };
-
-    ghost placed = { place };
-
-    ghost plain = { λ row. refl };
+    ghost means = { customers };
 }
 
 impl KeyedTable for tables::Profile {
     ghost use Rattle.wh_rows.specs.Keys.{bind_number, stands_at_number};
     ghost use Rattle.wh_rows.specs.Texts.{profile as texts};
-    ghost use Rattle.wh_rows.proofs.EachTable.Profiles.{put, remove, all, get, all_stored, get_stored, count};
-    ghost use Rattle.std.specs.Prelude.{refl};
-    ghost use Rattle.wh_rows.proofs.Places.{profile as place};
+    ghost use Rattle.wh_rows.proofs.KeyedTables.{profiles};
     ghost use Rattle.wh_rows.specs.declared.table.Table.TheVariants.{Profile};
 
     ghost bind = { bind_number };
@@ -509,35 +353,13 @@ impl KeyedTable for tables::Profile {
         number_key(alloc, key)
     }
 
-    ghost puts = { put };
-
-    ghost removes = { remove };
-
-    ghost lists = { all };
-
-    ghost finds = { get };
-
-    ghost counts = { count };
-
-    ghost lists_stored = { all_stored };
-
-    ghost finds_stored = { get_stored };
-
-    ghost named = { refl };
-
-    ghost harmed = { λ stored damage. damage };
-
-    ghost placed = { place };
-
-    ghost plain = { λ row. refl };
+    ghost means = { profiles };
 }
 
 impl KeyedTable for tables::Calendar {
     ghost use Rattle.wh_rows.specs.Keys.{bind_number, stands_at_number};
     ghost use Rattle.wh_rows.specs.Texts.{calendar as texts};
-    ghost use Rattle.wh_rows.proofs.EachTable.Calendars.{put, remove, all, get, all_stored, get_stored, count};
-    ghost use Rattle.std.specs.Prelude.{refl};
-    ghost use Rattle.wh_rows.proofs.Places.{calendar as place};
+    ghost use Rattle.wh_rows.proofs.KeyedTables.{calendars};
     ghost use Rattle.wh_rows.specs.declared.table.Table.TheVariants.{Calendar};
 
     ghost bind = { bind_number };
@@ -574,35 +396,13 @@ impl KeyedTable for tables::Calendar {
         day_key(alloc, key)
     }
 
-    ghost puts = { put };
-
-    ghost removes = { remove };
-
-    ghost lists = { all };
-
-    ghost finds = { get };
-
-    ghost counts = { count };
-
-    ghost lists_stored = { all_stored };
-
-    ghost finds_stored = { get_stored };
-
-    ghost named = { refl };
-
-    ghost harmed = { λ stored damage. damage };
-
-    ghost placed = { place };
-
-    ghost plain = { λ row. refl };
+    ghost means = { calendars };
 }
 
 impl KeyedTable for tables::Fact {
     ghost use Rattle.wh_rows.specs.Keys.{bind_line, stands_at_line};
     ghost use Rattle.wh_rows.specs.Texts.{fact as texts};
-    ghost use Rattle.wh_rows.proofs.EachTable.Facts.{put, remove, all, get, all_stored, get_stored, count};
-    ghost use Rattle.std.specs.Prelude.{refl};
-    ghost use Rattle.wh_rows.proofs.Places.{fact as place};
+    ghost use Rattle.wh_rows.proofs.KeyedTables.{facts};
     ghost use Rattle.wh_rows.specs.declared.table.Table.TheVariants.{Fact};
 
     ghost bind = { bind_line };
@@ -639,35 +439,13 @@ impl KeyedTable for tables::Fact {
         line_key(alloc, key)
     }
 
-    ghost puts = { put };
-
-    ghost removes = { remove };
-
-    ghost lists = { all };
-
-    ghost finds = { get };
-
-    ghost counts = { count };
-
-    ghost lists_stored = { all_stored };
-
-    ghost finds_stored = { get_stored };
-
-    ghost named = { refl };
-
-    ghost harmed = { λ stored damage. damage };
-
-    ghost placed = { place };
-
-    ghost plain = { λ row. refl };
+    ghost means = { facts };
 }
 
 impl KeyedTable for tables::Fact2 {
     ghost use Rattle.wh_rows.specs.Keys.{bind_line, stands_at_line};
     ghost use Rattle.wh_rows.specs.Texts.{fact2 as texts};
-    ghost use Rattle.wh_rows.proofs.EachTable.Facts2.{put_in, remove_in, all_in, get_in, all_stored_in, get_stored_in, count_in};
-    ghost use Rattle.std.specs.Prelude.{refl};
-    ghost use Rattle.wh_rows.proofs.Places.{fact2 as place};
+    ghost use Rattle.wh_rows.proofs.KeyedTables.{facts2};
     ghost use Rattle.wh_rows.specs.declared.table.Table.TheVariants.{Fact2};
 
     ghost bind = { bind_line };
@@ -704,35 +482,13 @@ impl KeyedTable for tables::Fact2 {
         line_key(alloc, key)
     }
 
-    ghost puts = { put_in };
-
-    ghost removes = { remove_in };
-
-    ghost lists = { all_in };
-
-    ghost finds = { get_in };
-
-    ghost counts = { count_in };
-
-    ghost lists_stored = { all_stored_in };
-
-    ghost finds_stored = { get_stored_in };
-
-    ghost named = { refl };
-
-    ghost harmed = { λ stored damage. damage };
-
-    ghost placed = { place };
-
-    ghost plain = { λ row. refl };
+    ghost means = { facts2 };
 }
 
 impl KeyedTable for tables::Void {
     ghost use Rattle.wh_rows.specs.Keys.{bind_line, stands_at_line};
     ghost use Rattle.wh_rows.specs.Texts.{void as texts};
-    ghost use Rattle.wh_rows.proofs.EachTable.Voids.{put_in, remove_in, all_in, get_in, all_stored_in, get_stored_in, count_in};
-    ghost use Rattle.std.specs.Prelude.{refl};
-    ghost use Rattle.wh_rows.proofs.Places.{void as place};
+    ghost use Rattle.wh_rows.proofs.KeyedTables.{voids};
     ghost use Rattle.wh_rows.specs.declared.table.Table.TheVariants.{Void};
 
     ghost bind = { bind_line };
@@ -769,25 +525,5 @@ impl KeyedTable for tables::Void {
         line_key(alloc, key)
     }
 
-    ghost puts = { put_in };
-
-    ghost removes = { remove_in };
-
-    ghost lists = { all_in };
-
-    ghost finds = { get_in };
-
-    ghost counts = { count_in };
-
-    ghost lists_stored = { all_stored_in };
-
-    ghost finds_stored = { get_stored_in };
-
-    ghost named = { refl };
-
-    ghost harmed = { λ stored damage. damage };
-
-    ghost placed = { place };
-
-    ghost plain = { λ row. refl };
+    ghost means = { voids };
 }

@@ -13,5 +13,5 @@ returns-then-not-is_in-clause-same g c clean stored at has t there rest =
     let rows = g.T.StoredTable.rows in
     let name = g.T.KeyedTable.name in
     let absent = sym c.is_in.ensures ∙ c.if-not-is_in.true in
-    let none = none_typed layout rows g.T.StoredTable.with_rows name g.met.T.KeyedTable.placed (state_of g.M.Store c.args.expected.now) t rest.1 (there ∙ absent) in
+    let none = none_typed layout rows g.T.StoredTable.with_rows name g.met.T.KeyedTable.means.placed (state_of g.M.Store c.args.expected.now) t rest.1 (there ∙ absent) in
     subst (λ (is : Bool). AreRowsAt layout (get (rows t)) (if is then stored.rows name else [])) (sym absent) (none_listed layout (rows t) none)

@@ -27,8 +27,8 @@ returns-clause-put g c clean before made at valid =
     let means : Means (is_there g.T.KeyedTable.name made.format) (InsertsEach (schema_in made.format) layout rows_at_once text) (understood (schema_in made.format) text) = rw c.insert_text.ensures (g.met.T.BatchedTable.inserts made.format) in
     let left = insert_leaves text params old new before made at clean survives layout (is_there g.T.KeyedTable.name made.format) means in
     rows_told _ _ text params (length c.args.rows.now) old new c.insert_sixteen.result (told.put clean params bound) told.sixteen (told.refused clean params bound)
-    (λ sixteen run. inserts_on text params old new before made at clean survives layout g.T.StoredTable.rows g.T.StoredTable.with_rows g.T.KeyedTable.name g.met.T.KeyedTable.placed g.met.T.KeyedTable.named
-    g.T.KeyedTable.bind g.T.KeyedTable.stands_at g.T.KeyedTable.texts.get (g.met.T.KeyedTable.finds_stored made.format) g.met.T.PagedTable.once means run.0 run.1 rows refl (length-map c.args.rows.now (λ r. r.now) ∙ sixteen) valid)
+    (λ sixteen run. inserts_on text params old new before made at clean survives layout g.T.StoredTable.rows g.T.StoredTable.with_rows g.T.KeyedTable.name g.met.T.KeyedTable.means.placed g.met.T.KeyedTable.means.named
+    g.T.KeyedTable.bind g.T.KeyedTable.stands_at g.T.KeyedTable.texts.get (g.met.T.KeyedTable.means.finds_stored made.format) g.met.T.PagedTable.once means run.0 run.1 rows refl (length-map c.args.rows.now (λ r. r.now) ∙ sixteen) valid)
     (λ not_put. elim not_put [ inl few ↦ subst (λ conn. IsWriting before (Some made) (state g.S.Store conn)) (sym few.1) at | inr broken ↦ refuses_on text params old new before made at clean survives left broken ])
 
 pub returns-clause-refused : goal.returns-clause-refused

@@ -15,14 +15,14 @@ pub returns-clause-rows : goal.returns-clause-rows
 returns-clause-rows g c clean t stored =
     let q = g.Q.Question in
     let of = c.args.question.now in
-    let asked = part_answered g.T.KeyedTable.name g.met.T.KeyedTable.placed (state g.S.Store c.args.conn.now) (state g.S.Store c.rows_shown.new.conn) (q.means of) (q.bind of) q.front (q.keep of) (λ format. g.met.Q.Question.reads format of) in
+    let asked = part_answered g.T.KeyedTable.name g.met.T.KeyedTable.means.placed (state g.S.Store c.args.conn.now) (state g.S.Store c.rows_shown.new.conn) (q.means of) (q.bind of) q.front (q.keep of) (λ format. g.met.Q.Question.reads format of) in
     rows_are asked c.rows_shown.result (rw (c.text.ensures, c.deref.ensures.value, c.in_ok-values.ensures.ok) at (c.rows_shown.ensures.shows clean)) t stored
 
 pub returns-clause-sound : goal.returns-clause-sound
 returns-clause-sound g c clean t stored =
     let q = g.Q.Question in
     let of = c.args.question.now in
-    let asked = part_answered g.T.KeyedTable.name g.met.T.KeyedTable.placed (state g.S.Store c.args.conn.now) (state g.S.Store c.rows_shown.new.conn) (q.means of) (q.bind of) q.front (q.keep of) (λ format. g.met.Q.Question.reads format of) in
+    let asked = part_answered g.T.KeyedTable.name g.met.T.KeyedTable.means.placed (state g.S.Store c.args.conn.now) (state g.S.Store c.rows_shown.new.conn) (q.means of) (q.bind of) q.front (q.keep of) (λ format. g.met.Q.Question.reads format of) in
     undamaged asked c.rows_shown.result g.T.KeyedTable.name (rw (c.text.ensures, c.deref.ensures.value, c.in_ok-values.ensures.ok) at (c.rows_shown.ensures.refused clean)) t stored
 
 pub returns-in_err-values-clause-reads : goal.returns-in_err-values-clause-reads
@@ -34,12 +34,12 @@ pub returns-clause-reads : goal.returns-clause-reads
 returns-clause-reads g c =
     let q = g.Q.Question in
     let of = c.args.question.now in
-    let asked = part_answered g.T.KeyedTable.name g.met.T.KeyedTable.placed (state g.S.Store c.args.conn.now) (state g.S.Store c.rows_shown.new.conn) (q.means of) (q.bind of) q.front (q.keep of) (λ format. g.met.Q.Question.reads format of) in
+    let asked = part_answered g.T.KeyedTable.name g.met.T.KeyedTable.means.placed (state g.S.Store c.args.conn.now) (state g.S.Store c.rows_shown.new.conn) (q.means of) (q.bind of) q.front (q.keep of) (λ format. g.met.Q.Question.reads format of) in
     let reads = rw c.text.ensures at c.rows_shown.ensures.reads in
     let refused = rw (c.text.ensures, c.deref.ensures.value, c.in_ok-values.ensures.ok) at c.rows_shown.ensures.refused in
     reads asked.quiet (λ clean t at. returns-clause-sound g c clean t at.now.tables)
     (λ clean stored at.
-    part_named g.T.StoredTable.layout g.T.KeyedTable.name g.met.T.KeyedTable.named g.met.T.KeyedTable.harmed (q.means of) (q.bind of) (state g.S.Store c.args.conn.now) (state g.S.Store c.rows_shown.new.conn)
+    part_named g.T.StoredTable.layout g.T.KeyedTable.name g.met.T.KeyedTable.means.named g.met.T.KeyedTable.means.harmed (q.means of) (q.bind of) (state g.S.Store c.args.conn.now) (state g.S.Store c.rows_shown.new.conn)
     q.front (q.keep of) (λ format. g.met.Q.Question.reads format of) c.rows_shown.result (refused clean) stored at.now)
 
 -- ---- of any stored rows
@@ -49,7 +49,7 @@ returns-clause-stored g c clean stored is =
     let q = g.Q.Question in
     let of = c.args.question.now in
     let shows = rw (c.text.ensures, c.deref.ensures.value, c.in_ok-values.ensures.ok) at (c.rows_shown.ensures.shows clean) in
-    asked_stored g.T.StoredTable.layout g.T.KeyedTable.name g.met.T.KeyedTable.named (q.stands of) (q.keep of) (q.means of) (q.bind of) (state g.S.Store c.args.conn.now) (state g.S.Store c.rows_shown.new.conn) stored is
+    asked_stored g.T.StoredTable.layout g.T.KeyedTable.name g.met.T.KeyedTable.means.named (q.stands of) (q.keep of) (q.means of) (q.bind of) (state g.S.Store c.args.conn.now) (state g.S.Store c.rows_shown.new.conn) stored is
     q.front (λ format. g.met.Q.Question.reads_stored format of) c.rows_shown.result shows
 
 pub returns-clause-damaged : goal.returns-clause-damaged
@@ -57,5 +57,5 @@ returns-clause-damaged g c clean stored is =
     let q = g.Q.Question in
     let of = c.args.question.now in
     let refused = rw (c.text.ensures, c.deref.ensures.value, c.in_ok-values.ensures.ok) at (c.rows_shown.ensures.refused clean) in
-    asked_damage g.T.StoredTable.layout g.T.KeyedTable.name g.met.T.KeyedTable.named (q.stands of) (q.keep of) (q.means of) (q.bind of) (state g.S.Store c.args.conn.now) (state g.S.Store c.rows_shown.new.conn) stored is
+    asked_damage g.T.StoredTable.layout g.T.KeyedTable.name g.met.T.KeyedTable.means.named (q.stands of) (q.keep of) (q.means of) (q.bind of) (state g.S.Store c.args.conn.now) (state g.S.Store c.rows_shown.new.conn) stored is
     q.front (λ format. g.met.Q.Question.reads_stored format of) c.rows_shown.result refused

@@ -50,7 +50,7 @@ returns-then-not-is_in-clause-rows g c clean t same at =
     let none : c.next.result ≡ None = none_is c.next.result c.in_default.not-Some in
     let lens = rw none at c.next.ensures.cases in
     let cursor = c.args.cursor.now in
-    let nothing = none_typed d.layout d.rows d.with_rows g.T.KeyedTable.name g.met.T.KeyedTable.placed (state_of g.S.Store c.args.tables.now) t at absent in
+    let nothing = none_typed d.layout d.rows d.with_rows g.T.KeyedTable.name g.met.T.KeyedTable.means.placed (state_of g.S.Store c.args.tables.now) t at absent in
     none_handed (into_iter_items cursor.ahead) (into_iter_items c.next.new.self) (filter (is_behind d.layout cursor.unread.after) (values (d.rows t))) cursor.is_over
     (no_items _ _ cursor.ahead.rest.ok.0 lens.0) (no_items _ _ c.next.new.self.rest.ok.0 lens.1) (ap (filter (is_behind d.layout cursor.unread.after)) nothing)
 

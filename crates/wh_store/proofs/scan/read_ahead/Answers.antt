@@ -11,7 +11,7 @@ returns-clause-rows g c clean t at fresh none =
     let rows = c.in_ok-rows.rows in
     let len : vec_len rows ≡ length rows.items = omega arith in
     let last = c.in_ok-after.ensures ∙ ap (λ l. option_map d.layout.key (slice_get l (length l - 1))) c.deref.ensures.value in
-    let whole = part_read d.layout d.rows d.with_rows g.met.T.KeyedTable.placed (state g.S.Store c.args.tables.now.conn) t at g.T.PagedTable.part_texts.most g.T.PagedTable.part_texts.some c.args.cursor.now.unread.after c.in_ok-after.after rows.items c.len.result (c.in_ok-rows.ensures.rows clean t at) last (c.len.ensures ∙ len) in
+    let whole = part_read d.layout d.rows d.with_rows g.met.T.KeyedTable.means.placed (state g.S.Store c.args.tables.now.conn) t at g.T.PagedTable.part_texts.most g.T.PagedTable.part_texts.some c.args.cursor.now.unread.after c.in_ok-after.after rows.items c.len.result (c.in_ok-rows.ensures.rows clean t at) last (c.len.ensures ∙ len) in
     rw (c.into_iter.ensures.rest, none, fresh, c.part_statements.ensures.2) whole
 
 pub returns-clause-keyed : goal.returns-clause-keyed

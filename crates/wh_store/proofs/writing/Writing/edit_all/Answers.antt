@@ -32,8 +32,8 @@ loop-edit-preserved g c =
       put = λ clean before made at may.
           let was = kept.put (c.edit.ensures.writes.clean clean) before made at may in
           let next = next_is c.args.edits.now c.loop-edit.edit-index c.edit-item.result c.loop-edit-test.true c.edit-item.is in
-          let one = next_may g.T.StoredTable.layout (with_edit g.T.StoredTable.layout) (Puts (IsValid g.T.StoredTable.layout)) g.T.StoredTable.rows g.T.StoredTable.with_rows g.met.T.KeyedTable.placed c.args.edits.now c.loop-edit.edit-index c.edit-item.result was.0 _ next was.2 in
-          (_, c.in_ok-edit.ensures.edited clean before was.0 was.1 one, next_way g.T.StoredTable.layout (with_edit g.T.StoredTable.layout) (Puts (IsValid g.T.StoredTable.layout)) g.T.StoredTable.rows g.T.StoredTable.with_rows g.met.T.KeyedTable.placed c.args.edits.now c.loop-edit.edit-index c.edit-item.result was.0 _ next was.2);
+          let one = next_may g.T.StoredTable.layout (with_edit g.T.StoredTable.layout) (Puts (IsValid g.T.StoredTable.layout)) g.T.StoredTable.rows g.T.StoredTable.with_rows g.met.T.KeyedTable.means.placed c.args.edits.now c.loop-edit.edit-index c.edit-item.result was.0 _ next was.2 in
+          (_, c.in_ok-edit.ensures.edited clean before was.0 was.1 one, next_way g.T.StoredTable.layout (with_edit g.T.StoredTable.layout) (Puts (IsValid g.T.StoredTable.layout)) g.T.StoredTable.rows g.T.StoredTable.with_rows g.met.T.KeyedTable.means.placed c.args.edits.now c.loop-edit.edit-index c.edit-item.result was.0 _ next was.2);
       counted = omega (arith, c.in_ok-edit.ensures.counted, kept.counted);
       noted = c.in_ok-edit.ensures.noted ∙ kept.noted;
     }
@@ -41,7 +41,7 @@ loop-edit-preserved g c =
 pub returns-clause-edited : goal.returns-clause-edited
 returns-clause-edited g c clean before made at may =
     let was = c.loop-edit.invariant.put clean before made at may in
-    subst (λ all. IsWriting before (Some all) (state g.S.Store c.loop-edit.self.tables.now.conn)) (way_ends g.T.StoredTable.layout (with_edit g.T.StoredTable.layout) (Puts (IsValid g.T.StoredTable.layout)) g.T.StoredTable.rows g.T.StoredTable.with_rows g.met.T.KeyedTable.placed c.args.edits.now c.loop-edit.edit-index was.0 _ c.loop-edit-test.false was.2) was.1
+    subst (λ all. IsWriting before (Some all) (state g.S.Store c.loop-edit.self.tables.now.conn)) (way_ends g.T.StoredTable.layout (with_edit g.T.StoredTable.layout) (Puts (IsValid g.T.StoredTable.layout)) g.T.StoredTable.rows g.T.StoredTable.with_rows g.met.T.KeyedTable.means.placed c.args.edits.now c.loop-edit.edit-index was.0 _ c.loop-edit-test.false was.2) was.1
 
 pub returns-clause-writes : goal.returns-clause-writes
 returns-clause-writes g c = record {

@@ -50,7 +50,7 @@ returns-in_err-edit_part-clause-writes g c =
           let was = kept.put (c.edit_part.ensures.writes.clean clean) before made at may in
           let whole = table.with_rows (after_all step c.args.edits.now (table.rows made)) made in
           let way = subst (λ es. IsOnTheWay step may_put table.rows table.with_rows es was.0 whole) is was.2 in
-          c.edit_part.ensures.writes.left clean before was.0 was.1 (part_may table.layout step may_put table.rows table.with_rows g.met.T.KeyedTable.placed c.in-Some.part.now (chunks_rest c.next.new.self) was.0 whole way);
+          c.edit_part.ensures.writes.left clean before was.0 was.1 (part_may table.layout step may_put table.rows table.with_rows g.met.T.KeyedTable.means.placed c.in-Some.part.now (chunks_rest c.next.new.self) was.0 whole way);
     }
 
 pub returns-in_err-edit_part-clause-cause : goal.returns-in_err-edit_part-clause-cause
@@ -74,7 +74,7 @@ returns-in_err-edit_part-clause-cause g c clean before made at may typed room =
     let run : Has (runs_of edits) part = subst (λ es. Has (runs_of es) part) (sym all) (run_among done part rest (rw (kept.size, long) at size) (rw long at some)) in
     let own : (edit : _) → Has part edit → IsOfTypes table.layout edit = λ edit here. typed edit (subst (λ es. Has es edit) (sym all) (has_right done (part ++ rest) edit (has_left part rest edit here))) in
     let longer = long ∙ length-append part rest in
-    let refused = c.in_err-edit_part.ensures.cause clean before was.0 was.1 (part_may table.layout step may_put table.rows table.with_rows g.met.T.KeyedTable.placed part rest was.0 whole way) own (omega (arith, kept.counted, longer, room)) in
+    let refused = c.in_err-edit_part.ensures.cause clean before was.0 was.1 (part_may table.layout step may_put table.rows table.with_rows g.met.T.KeyedTable.means.placed part rest was.0 whole way) own (omega (arith, kept.counted, longer, room)) in
     let p = err_from_is_err_and c.from_residual.result c.from_residual.ensures.1 in
     rw (p.1, p.2) (λ other. part_refused g.S.Store table.layout g.T.KeyedTable.texts g.T.KeyedTable.bind g.T.BatchedTable.insert_means c.args.self.now.tables.now.conn c.edit_part.new.self.tables.now.conn part c.in_err-edit_part.field-0.0
     c.loop-part.self.tables.now.conn kept.counts edits run (refused other))
@@ -103,8 +103,8 @@ loop-part-preserved g c =
           let whole = table.with_rows (after_all step c.args.edits.now (table.rows made)) made in
           let way = subst (λ es. IsOnTheWay step may_put table.rows table.with_rows es was.0 whole) steps.1.0 was.2 in (
             _,
-            c.in_ok-edit_part.ensures.edited clean before was.0 was.1 (part_may table.layout step may_put table.rows table.with_rows g.met.T.KeyedTable.placed part rest was.0 whole way),
-            part_way table.layout step may_put table.rows table.with_rows g.met.T.KeyedTable.placed part rest was.0 whole way,
+            c.in_ok-edit_part.ensures.edited clean before was.0 was.1 (part_may table.layout step may_put table.rows table.with_rows g.met.T.KeyedTable.means.placed part rest was.0 whole way),
+            part_way table.layout step may_put table.rows table.with_rows g.met.T.KeyedTable.means.placed part rest was.0 whole way,
           );
     }
 
@@ -112,7 +112,7 @@ pub returns-clause-edited : goal.returns-clause-edited
 returns-clause-edited g c clean before made at may =
     let table = g.T.StoredTable in
     let was = c.loop-part.invariant.put clean before made at may in
-    subst (λ all. IsWriting before (Some all) (state g.S.Store c.loop-part.self.tables.now.conn)) (way_ends table.layout (with_edit table.layout) (Puts (IsValid table.layout)) table.rows table.with_rows g.met.T.KeyedTable.placed (chunks_rest c.loop-part.part-iterator) 0 was.0 _ (omega (arith, c.in-None.ensures.steps.1.0)) was.2) was.1
+    subst (λ all. IsWriting before (Some all) (state g.S.Store c.loop-part.self.tables.now.conn)) (way_ends table.layout (with_edit table.layout) (Puts (IsValid table.layout)) table.rows table.with_rows g.met.T.KeyedTable.means.placed (chunks_rest c.loop-part.part-iterator) 0 was.0 _ (omega (arith, c.in-None.ensures.steps.1.0)) was.2) was.1
 
 pub returns-clause-counted : goal.returns-clause-counted
 returns-clause-counted g c = omega (arith, c.loop-part.invariant.counted, c.in-None.ensures.steps.1.0)

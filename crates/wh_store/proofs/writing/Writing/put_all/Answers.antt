@@ -20,7 +20,7 @@ returns-in_err-put-clause-cause g c clean before made at may room =
     let was = c.loop-row.invariant.put (c.put.ensures.writes.clean clean) before made at may in
     let among = is_among c.args.rows.now c.loop-row.row-index c.row-item.result c.loop-row-test.true c.row-item.is in
     let next = next_is c.args.rows.now c.loop-row.row-index c.row-item.result c.loop-row-test.true c.row-item.is in
-    let one = next_may g.T.StoredTable.layout (with_row g.T.StoredTable.layout) (IsValid g.T.StoredTable.layout) g.T.StoredTable.rows g.T.StoredTable.with_rows g.met.T.KeyedTable.placed c.args.rows.now c.loop-row.row-index c.row-item.result was.0 _ next was.2 in
+    let one = next_may g.T.StoredTable.layout (with_row g.T.StoredTable.layout) (IsValid g.T.StoredTable.layout) g.T.StoredTable.rows g.T.StoredTable.with_rows g.met.T.KeyedTable.means.placed c.args.rows.now c.loop-row.row-index c.row-item.result was.0 _ next was.2 in
     let refused = c.in_err-put.ensures.cause clean was.1.inside (omega (arith, c.loop-row.invariant.counted, c.loop-row-test.true, room)) one in
     let p = err_from_is_err_and c.from_residual.result c.from_residual.ensures.1 in
     rw (p.1, p.2) (λ other. one_refused g.S.Store c.args.self.now.tables.now.conn c.loop-row.self.tables.now.conn c.put.new.self.tables.now.conn c.loop-row.invariant.counts IsCauseOf (λ row. (g.T.KeyedTable.texts.put, g.T.StoredTable.layout.encode row)) c.args.rows.now c.row-item.result c.in_err-put.field-0.0 among (refused other))
@@ -35,8 +35,8 @@ loop-row-preserved g c =
       put = λ clean before made at may.
           let was = kept.put (c.put.ensures.writes.clean clean) before made at may in
           let next = next_is c.args.rows.now c.loop-row.row-index c.row-item.result c.loop-row-test.true c.row-item.is in
-          let one = next_may g.T.StoredTable.layout (with_row g.T.StoredTable.layout) (IsValid g.T.StoredTable.layout) g.T.StoredTable.rows g.T.StoredTable.with_rows g.met.T.KeyedTable.placed c.args.rows.now c.loop-row.row-index c.row-item.result was.0 _ next was.2 in
-          (_, c.in_ok-put.ensures.put clean before was.0 was.1 one, next_way g.T.StoredTable.layout (with_row g.T.StoredTable.layout) (IsValid g.T.StoredTable.layout) g.T.StoredTable.rows g.T.StoredTable.with_rows g.met.T.KeyedTable.placed c.args.rows.now c.loop-row.row-index c.row-item.result was.0 _ next was.2);
+          let one = next_may g.T.StoredTable.layout (with_row g.T.StoredTable.layout) (IsValid g.T.StoredTable.layout) g.T.StoredTable.rows g.T.StoredTable.with_rows g.met.T.KeyedTable.means.placed c.args.rows.now c.loop-row.row-index c.row-item.result was.0 _ next was.2 in
+          (_, c.in_ok-put.ensures.put clean before was.0 was.1 one, next_way g.T.StoredTable.layout (with_row g.T.StoredTable.layout) (IsValid g.T.StoredTable.layout) g.T.StoredTable.rows g.T.StoredTable.with_rows g.met.T.KeyedTable.means.placed c.args.rows.now c.loop-row.row-index c.row-item.result was.0 _ next was.2);
       counted = omega (arith, c.in_ok-put.ensures.counted, kept.counted);
       noted = c.in_ok-put.ensures.noted ∙ kept.noted;
     }
@@ -44,7 +44,7 @@ loop-row-preserved g c =
 pub returns-clause-put : goal.returns-clause-put
 returns-clause-put g c clean before made at may =
     let was = c.loop-row.invariant.put clean before made at may in
-    subst (λ all. IsWriting before (Some all) (state g.S.Store c.loop-row.self.tables.now.conn)) (way_ends g.T.StoredTable.layout (with_row g.T.StoredTable.layout) (IsValid g.T.StoredTable.layout) g.T.StoredTable.rows g.T.StoredTable.with_rows g.met.T.KeyedTable.placed c.args.rows.now c.loop-row.row-index was.0 _ c.loop-row-test.false was.2) was.1
+    subst (λ all. IsWriting before (Some all) (state g.S.Store c.loop-row.self.tables.now.conn)) (way_ends g.T.StoredTable.layout (with_row g.T.StoredTable.layout) (IsValid g.T.StoredTable.layout) g.T.StoredTable.rows g.T.StoredTable.with_rows g.met.T.KeyedTable.means.placed c.args.rows.now c.loop-row.row-index was.0 _ c.loop-row-test.false was.2) was.1
 
 pub returns-clause-writes : goal.returns-clause-writes
 returns-clause-writes g c = record {
