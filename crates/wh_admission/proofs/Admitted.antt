@@ -2,7 +2,7 @@
 use Rattle.std.proofs.Common.{◌≡◌, List, [], ◌∷◌, ◌++◌, Result, Ok, Err, refl, sym, ap, subst, ◌∙◌, append_assoc}
 use Rattle.wh_history.specs.Accepted.{Accepted, Content, format_of}
 use Rattle.wh_history.specs.Tables.{Limits}
-use Rattle.wh_model.specs.Sound.{making_of}
+use Rattle.wh_model.specs.Sound.{init_of}
 use Rattle.wh_model.specs.Sound.{IsAccepted}
 use Rattle.wh_model.proofs.StaysBegun.{accepted_lists_begin}
 use Rattle.wh_admission.specs.Admission.{current_policy, content_of, accepted_as, answer, with_content, after_answer, accepted_after, accepted_after_all, AreAdmitted, AdmittedListsAreSound, IsOfItsBytes, AreOfTheirBytes, ContentsAreRead}
@@ -21,7 +21,7 @@ sound_after_all limits commands (c ∷ sent) ok = sound_after_all limits (accept
 
 pub admitted_sound : AdmittedListsAreSound
 admitted_sound limits commands it =
-    subst (IsAccepted limits) (sym it.admitted) (sound_after_all limits (making_of it.policy it.bytes ∷ []) it.sent (accepted_lists_begin limits it.policy it.bytes it.limited it.written))
+    subst (IsAccepted limits) (sym it.admitted) (sound_after_all limits (init_of it.policy it.bytes ∷ []) it.sent (accepted_lists_begin limits it.policy it.bytes it.limited it.written))
 
 -- ---- one more command
 
@@ -36,7 +36,7 @@ admitted_after limits commands c it = record {
   bytes = it.bytes;
   written = it.written;
   sent = it.sent ++ c ∷ [];
-  admitted = ap (λ (list : List Accepted). accepted_after limits list c) it.admitted ∙ sym (last_of_all limits (making_of it.policy it.bytes ∷ []) it.sent c);
+  admitted = ap (λ (list : List Accepted). accepted_after limits list c) it.admitted ∙ sym (last_of_all limits (init_of it.policy it.bytes ∷ []) it.sent c);
 }
 
 pub admitted_after_all : (limits : Limits) (commands : List Accepted) (sent : List Command) → AreAdmitted limits commands → AreAdmitted limits (accepted_after_all limits commands sent)
@@ -84,7 +84,7 @@ same_later a b later others same = (cc, cc)
 
 pub contents_are_read : ContentsAreRead
 contents_are_read limits making later it =
-    let first = making_of it.policy it.bytes in
+    let first = init_of it.policy it.bytes in
     let from : IsReadFrom first (making ∷ later) = subst (IsReadFrom first) (sym it.admitted) (read_after_all first limits (first ∷ []) it.sent (record { later = []; begins = refl; are = tt })) in
     let same = same_later making first later from.later from.begins in
     subst (λ list. AreOfTheirBytes (making ∷ []) list) (sym same.1) (subst (λ (m : Accepted). AreOfTheirBytes (m ∷ []) from.later) (sym same.0) from.are)

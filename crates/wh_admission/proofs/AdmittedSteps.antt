@@ -4,7 +4,7 @@ use Rattle.std.specs.Prelude.{find, bytes_eq}
 use Rattle.wh_batch.specs.declared.kind.CommandKind.{CommandKind}
 use Rattle.wh_history.specs.Accepted.{Accepted, Content, format_of}
 use Rattle.wh_history.specs.Tables.{Limits}
-use Rattle.wh_model.specs.Sound.{making_of}
+use Rattle.wh_model.specs.Sound.{init_of}
 use Rattle.wh_rows.specs.Types.{is_key}
 use Rattle.wh_admission.specs.Admission.{current_policy, content_of, number_for, accepted_as, when_read, answer, with_content, after_answer, accepted_after, accepted_after_all, AreAdmitted}
 use Rattle.wh_admission.specs.Steps.{ComesAfter, ComeAfter, AreStepped, AdmittedIsStepped}
@@ -113,12 +113,12 @@ sent_all limits before (a ∷ later) come =
 
 pub stepped : (limits : Limits) (commands : List Accepted) → AreAdmitted limits commands → AreStepped limits commands
 stepped limits commands it =
-    let adds = all_added limits (making_of it.policy it.bytes ∷ []) it.sent in
+    let adds = all_added limits (init_of it.policy it.bytes ∷ []) it.sent in
     record { limited = it.limited; policy = it.policy; bytes = it.bytes; written = it.written; later = adds.added; begins = it.admitted ∙ adds.is; come = adds.come }
 
 pub from_steps : (limits : Limits) (commands : List Accepted) → AreStepped limits commands → AreAdmitted limits commands
 from_steps limits commands it =
-    let all = sent_all limits (making_of it.policy it.bytes ∷ []) it.later it.come in
+    let all = sent_all limits (init_of it.policy it.bytes ∷ []) it.later it.come in
     record { limited = it.limited; policy = it.policy; bytes = it.bytes; written = it.written; sent = all.sent; admitted = it.begins ∙ all.is }
 
 pub admitted_is_stepped : AdmittedIsStepped
@@ -137,7 +137,7 @@ pub record IsParted (limits : Limits) (first second : List Accepted) : Type 0 wh
 pub parted : (limits : Limits) (b : Accepted) (first second : List Accepted) → AreAdmitted limits ((b ∷ first) ++ second) → IsParted limits (b ∷ first) second
 parted limits b first second it =
     let steps = stepped limits ((b ∷ first) ++ second) it in
-    let making = making_of steps.policy steps.bytes in
+    let making = init_of steps.policy steps.bytes in
     let same = split_after making first second steps.later b (sym steps.begins) in
     let parts = come_parts limits (making ∷ []) first second (subst (ComeAfter limits (making ∷ [])) same.1 steps.come) in
     record {
@@ -149,7 +149,7 @@ parted limits b first second it =
 pub admitted_with : (limits : Limits) (commands : List Accepted) (a : Accepted) → AreAdmitted limits commands → ComesAfter limits commands a → AreAdmitted limits (commands ++ a ∷ [])
 admitted_with limits commands a it comes =
     let steps = stepped limits commands it in
-    let making = making_of steps.policy steps.bytes in
+    let making = init_of steps.policy steps.bytes in
     from_steps limits (commands ++ a ∷ []) (record {
       limited = steps.limited;
       policy = steps.policy;

@@ -23,7 +23,7 @@ use Rattle.wh_rows.specs.declared.table.Table.{Table}
 use Rattle.wh_rows.specs.declared.table.Table.TheVariants.{Meta, Command, Member, Change, Product, Store, Customer, Profile, Calendar, Fact, Fact2, Void}
 use Rattle.wh_rows.specs.Raw.{Stored, HasDamageIn}
 use Rattle.wh_rows.specs.Rows as row
-use Rattle.wh_model.specs.Sound.{making_of}
+use Rattle.wh_model.specs.Sound.{init_of}
 use Rattle.wh_model.proofs.GrownCommands.{command_keyed}
 use Rattle.wh_model.proofs.GrownKeys.{keyed_map}
 use Rattle.wh_rows.proofs.Places as places
@@ -135,11 +135,11 @@ both_begin a b later others same = (parts_of a b cc, cc)
 
 by_steps : (limits : Limits) (commands told : List Accepted) → AreStepped limits commands → AreStepped limits told → map header commands ≡ map header told → commands ≡ told
 by_steps limits commands told one two same =
-    let first = making_of one.policy one.bytes in
-    let second = making_of two.policy two.bytes in
+    let first = init_of one.policy one.bytes in
+    let second = init_of two.policy two.bytes in
     let parts = both_begin first second one.later two.later (sym (ap (map header) one.begins) ∙ same ∙ ap (map header) two.begins) in
     let policy : one.policy ≡ two.policy = policy_is one.policy two.policy (sym one.written ∙ ap read_policy parts.0.bytes ∙ two.written) in
-    let making : first ≡ second = λ i. making_of (policy i) (parts.0.bytes i) in
+    let making : first ≡ second = λ i. init_of (policy i) (parts.0.bytes i) in
     let later = same_after limits (first ∷ []) one.later two.later one.come (subst (λ (m : Accepted). ComeAfter limits (m ∷ []) two.later) (sym making) two.come) parts.1 in
     one.begins ∙ (λ i. making i ∷ later i) ∙ sym two.begins
 

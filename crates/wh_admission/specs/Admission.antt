@@ -22,7 +22,7 @@ use Rattle.wh_history.specs.Accepted.{Accepted, Content, Governs, Describes, Sel
 use Rattle.wh_history.specs.Tables.{Limits}
 use Rattle.wh_rows.specs.Types.{is_key}
 use Rattle.wh_rows.specs.Limits.{are_limits}
-use Rattle.wh_model.specs.Sound.{making_of}
+use Rattle.wh_model.specs.Sound.{init_of}
 use Rattle.wh_model.specs.Sound.{IsAccepted, changes_kept, same_line, is_sold_line}
 use Rattle.wh_admission.specs.declared.command.Command.{Command}
 use Rattle.wh_batch.specs.declared.kind.CommandKind.{CommandKind}
@@ -219,7 +219,7 @@ pub record AreAdmitted (limits : Limits) (commands : List Accepted) : Type 0 whe
   pub bytes : List ℕ
   pub written : read_policy bytes ≡ Ok policy
   pub sent : List Command
-  pub admitted : commands ≡ accepted_after_all limits (making_of policy bytes ∷ []) sent
+  pub admitted : commands ≡ accepted_after_all limits (init_of policy bytes ∷ []) sent
 
 -- Such a list is one that a warehouse can have accepted.
 abbrev pub AdmittedListsAreSound : Type 0

@@ -34,17 +34,19 @@ pub record IsNew (commands : List Accepted) (c : Command) : Type 0 where
   pub good : is_key 40 c.id ≡ true
   pub others : AllByRecursion (λ a. a.id ≢ c.id) commands
 
--- it is new, and under the policy in force it says this
+-- ---- what is checked of a command, in this order: each record adds one thing to the one before
+
+-- a command is new, and under the policy and the format in force its bytes say this content
 pub record Says (commands : List Accepted) (c : Command) (content : Content) : Type 0 where
   pub new : IsNew commands c
   pub read : content_of c.kind (format_of commands) (current_policy commands) c.bytes ≡ Ok content
 
--- and the limit of commands isn't reached
+-- the limit of commands isn't reached
 pub record MayBeCounted (limits : Limits) (commands : List Accepted) (c : Command) (content : Content) : Type 0 where
   pub says : Says commands c content
   pub commands_left : length commands < limits.commands
 
--- and it is no second upgrade
+-- it is no second upgrade
 pub record FitsFormat (limits : Limits) (commands : List Accepted) (c : Command) (content : Content) : Type 0 where
   pub counted : MayBeCounted limits commands c content
   pub upgrades_once : upgrades_again commands content ≡ false
@@ -53,7 +55,7 @@ pub record FitsFormat (limits : Limits) (commands : List Accepted) (c : Command)
 abbrev pub is_missing : List Accepted → VoidRecord → Bool
 is_missing commands v = not (is_sold_line (standing commands) v)
 
--- and each line that it withdraws stands
+-- each line that it withdraws stands
 pub record WithdrawsStanding (limits : Limits) (commands : List Accepted) (c : Command) (content : Content) : Type 0 where
   pub fits : FitsFormat limits commands c content
   pub lines_stand : AllByRecursion (λ v. is_missing commands v ≡ false) (withdrawn_by content)
@@ -62,7 +64,7 @@ pub record WithdrawsStanding (limits : Limits) (commands : List Accepted) (c : C
 abbrev pub is_sold : List Accepted → SaleRecord → Bool
 is_sold commands s = list_any (λ t. same_line t s) (sold commands)
 
--- and no line that it sells is there
+-- no line that it sells is there
 pub record BringsNewLines (limits : Limits) (commands : List Accepted) (c : Command) (content : Content) : Type 0 where
   pub withdraws : WithdrawsStanding limits commands c content
   pub lines_new : AllByRecursion (λ s. is_sold commands s ≡ false) (sold_by content)

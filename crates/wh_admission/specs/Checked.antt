@@ -130,4 +130,4 @@ DamageIsWrong = (stored : Stored) (table : Table) → HasDamageIn stored table �
 
 -- What is stored says one list of commands at most.
 abbrev pub CommandsAreOne : Type 0
-CommandsAreOne = (stored : Stored) (limits others : Limits) (commands told : List Accepted) → SaysCommands stored limits commands → SaysCommands stored others told → (limits ≡ others) × (commands ≡ told)
+CommandsAreOne = (stored : Stored) (limits other_limits : Limits) (commands others : List Accepted) → SaysCommands stored limits commands → SaysCommands stored other_limits others → (limits ≡ other_limits) × (commands ≡ others)

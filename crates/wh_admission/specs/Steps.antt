@@ -9,7 +9,7 @@ use Rattle.wh_history.specs.Tables.{Limits}
 use Rattle.wh_model.specs.Defined.{command_at}
 use Rattle.wh_rows.specs.Limits.{are_limits}
 use Rattle.wh_rows.specs.declared.rows.CommandRow.{CommandRow}
-use Rattle.wh_model.specs.Sound.{making_of}
+use Rattle.wh_model.specs.Sound.{init_of}
 use Rattle.wh_rows.specs.Types.{is_key}
 use Rattle.wh_admission.specs.Admission.{current_policy, content_of, kept_bytes, number_for, AreAdmitted}
 
@@ -35,8 +35,8 @@ pub record AreStepped (limits : Limits) (commands : List Accepted) : Type 0 wher
   pub bytes : List ℕ
   pub written : read_policy bytes ≡ Ok policy
   pub later : List Accepted
-  pub begins : commands ≡ making_of policy bytes ∷ later
-  pub come : ComeAfter limits (making_of policy bytes ∷ []) later
+  pub begins : commands ≡ init_of policy bytes ∷ later
+  pub come : ComeAfter limits (init_of policy bytes ∷ []) later
 
 -- That is what it is to have been admitted.
 abbrev pub AdmittedIsStepped : Type 0

@@ -33,7 +33,7 @@ pub enum Content {
 
 /// A fault of a batch is its command's.
 fn of_batch<R: Drop>(read: Result<R, ParseError<BatchFault>>) -> Result<R, ParseError<Refusal>>
-    ensures { (told : Result R BatchFault) → Gives (λ r. r) read told → Gives (λ r. r) result (of_batch told) }
+    ensures { (given : Result R BatchFault) → Gives (λ r. r) read given → Gives (λ r. r) result (of_batch given) }
 {
     match read {
         Ok(records) => Ok(records),

@@ -12,7 +12,7 @@ use Rattle.wh_history.specs.Accepted.{Accepted, Content, format_of}
 use Rattle.wh_history.specs.Tables.{Limits}
 use Rattle.wh_history.proofs.Basics.{some_is}
 use Rattle.wh_model.specs.Defined.{command_at}
-use Rattle.wh_model.specs.Sound.{making_of}
+use Rattle.wh_model.specs.Sound.{init_of}
 use Rattle.wh_rows.specs.Types.{is_key}
 use Rattle.wh_rows.specs.declared.rows.CommandRow.{CommandRow}
 use Rattle.wh_admission.specs.Admission.{current_policy, kept_bytes, content_of, number_for, accepted_as, receipt_of, when_read, answer, with_content, after_answer, accepted_after, AreAdmitted}
@@ -220,7 +220,7 @@ init_is row h =
 making_row : Policy → List ℕ → CommandRow
 making_row policy bytes = record { number = 1; id = codes "init"; kind = codes "init"; bytes = bytes; records = 0; placeholders = 0 }
 
-pub made_next : (limits : Limits) (row : CommandRow) (policy : Policy) → is_making_row row ≡ true → AreAdmitted limits (making_of policy row.bytes ∷ []) → IsNextRow limits [] row (making_of policy row.bytes)
+pub made_next : (limits : Limits) (row : CommandRow) (policy : Policy) → is_making_row row ≡ true → AreAdmitted limits (init_of policy row.bytes ∷ []) → IsNextRow limits [] row (init_of policy row.bytes)
 made_next limits row policy is admitted =
     let it = init_is row is in
     let number = sym it.number in
@@ -240,7 +240,7 @@ first_row : (limits : Limits) (a : Accepted) (more : List Accepted) (row : Comma
 unfolding making_row
 first_row limits a more row admitted is =
     let steps = stepped limits (a ∷ more) admitted in
-    let making = making_of steps.policy steps.bytes in
+    let making = init_of steps.policy steps.bytes in
     let first : a ≡ making = heads a making more steps.later steps.begins in
     let own : row ≡ making_row steps.policy steps.bytes = some_is row (making_row steps.policy steps.bytes) (sym is ∙ ap (λ (b : Accepted). command_at (b ∷ more) 1) first) in
     subst IsFirstRow (sym own) (record { is_making = refl; policy = steps.policy; written = steps.written })

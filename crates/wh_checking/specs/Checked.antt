@@ -26,4 +26,4 @@ IsChecked stored (Err Reopen) = ⊥
 
 -- What a check says of a warehouse that has accepted these commands: it is clean, and nothing changes.
 abbrev pub IsCheckedOf : Limits → List Accepted → Result Verdict Fault → Session → State → Type 0
-IsCheckedOf limits commands result session s = Outcome (λ told. told ≡ Ok Clean) commands commands result (IsLeft limits session s)
+IsCheckedOf limits commands result session s = Outcome (λ due. due ≡ Ok Clean) commands commands result (IsLeft limits session s)

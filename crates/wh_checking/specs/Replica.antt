@@ -43,7 +43,7 @@ abbrev pub IsFollowed : Limits → List Accepted → CommandRow → (List Accept
 IsFollowed limits commands row Holds true = (a : Accepted) × IsNextRow limits commands row a × Holds (commands ++ a ∷ [])
 IsFollowed limits commands row Holds false = (a : Accepted) (more : List Accepted) → AreAdmitted limits (commands ++ a ∷ more) → command_at (commands ++ a ∷ more) (suc (length commands)) ≢ Some row
 
--- The row is that of a making, and the engine is open for it alone; or it is that of no making.
+-- There is an engine, open for a making alone, and the row is that of this making; or there is none, and the row is that of no making.
 abbrev pub IsMadeOrNot : {M : Type 0} → Ghosts M → Limits → CommandRow → Option (Engine M) → Type 0
 IsMadeOrNot g limits row (Some engine) = (a : Accepted) × IsNextRow limits [] row a × IsOpenFor g limits (a ∷ []) engine
 IsMadeOrNot g limits row None = (a : Accepted) (more : List Accepted) → AreAdmitted limits (a ∷ more) → command_at (a ∷ more) 1 ≢ Some row

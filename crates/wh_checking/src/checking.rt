@@ -3,7 +3,7 @@
 ghost use Rattle.std.specs.Prelude.{◌≡◌, List, false, Some, IfOk, IfErr};
 ghost use Rattle.wh_history.specs.Accepted.{Accepted, format_of};
 ghost use Rattle.wh_history.specs.Tables.{Limits as LimitCounts};
-ghost use Rattle.wh_rows.specs.Tables.{Tables as TenTables};
+ghost use Rattle.wh_rows.specs.Tables.{Tables as TypedTables};
 ghost use Rattle.wh_store.specs.Faithful.{RestsFaithfully};
 ghost use Rattle.wh_store.specs.Reads.{IsServed, NamesDamage};
 ghost use Rattle.wh_admission.specs.Checked.{Covers, SaysCommands, stored_in};
@@ -60,7 +60,7 @@ fn is_defined_in<S: Alter, M: Alter>(
     table: Table,
 ) -> Result<bool, ReadFault>
     ensures reads { ReadsOnlyIn S.Store tables.old tables.new result }
-    ensures rests { (t : TenTables) → RestsFaithfully M.Store (Some t) replica.old.conn → IfOk result (λ _. RestsFaithfully M.Store (Some t) replica.new.conn) }
+    ensures rests { (t : TypedTables) → RestsFaithfully M.Store (Some t) replica.old.conn → IfOk result (λ _. RestsFaithfully M.Store (Some t) replica.new.conn) }
     ensures defined { WhenStored S.Store tables.old tables.new (λ stored. Covers stored.format format → (limits : LimitCounts) (commands : List Accepted) → format ≡ format_of commands → HoldsAll M.Store limits commands replica.old → IfOk result (IsDefinedIn limits commands (stored_in format stored) table)) }
     ensures damaged { WhenStored S.Store tables.old tables.new (λ stored. IfErr result (IsOfDamageIn (stored_in format stored) table)) }
 {
@@ -110,7 +110,7 @@ fn judge<S: Alter>(
     judge_tables(tables, alloc, format, &mut replica)
 }
 
-/// The same, with the engine's faults.
+/// What is found of the tables, as by [`judge`], with its faults as those of the engine.
 fn check_tables<S: Alter>(
     tables: &mut Tables<S>,
     alloc: Global,

@@ -35,7 +35,7 @@ fn format_row(alloc: Global, format: Format) -> Result<MetaRow, AllocError>
     })
 }
 
-/// Makes the tables in memory, and the rows of meta for these limits and this row.
+/// Makes the tables in memory with what meta says of these limits, puts this row into meta, and commits.
 fn commit_tables(
     tables: &mut Tables<MemStore>,
     alloc: Global,
@@ -45,7 +45,7 @@ fn commit_tables(
     ensures { IsAtRest None (state_of over_memory tables.old) → IsTrue (meta.is_valid row.now) → OnOk result (IsAtRest (Some (made_saying limits row.now)) (state_of over_memory tables.new)) }
 {
     let mut writing = tables.begin()?;
-    writing.make(alloc, limits)?;
+    writing.init(alloc, limits)?;
     writing.put::<tables::Meta>(alloc, row)?;
     writing.commit()
 }
@@ -60,7 +60,7 @@ fn made_tables(
 {
     let row = format_row(alloc, format)?;
     let connection = open_fresh(alloc)?;
-    let Ok(mut tables) = Tables::make(connection) else {
+    let Ok(mut tables) = Tables::for_init(connection) else {
         return Err(AllocError);
     };
     match commit_tables(&mut tables, alloc, limits, &row) {

@@ -52,7 +52,7 @@ fn made(
     }
 }
 
-/// Whether a receipt says this.
+/// Whether a receipt has this number, so many records and so many placeholders.
 fn says(receipt: Receipt, number: u64, records: u64, placeholders: u64) -> bool
     ensures { result ≡ ((receipt.number == number) && (receipt.records == records) && (receipt.placeholders == placeholders)) }
 {

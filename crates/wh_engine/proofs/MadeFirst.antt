@@ -10,14 +10,14 @@ use Rattle.wh_rows.specs.declared.rows.CommandRow.{CommandRow}
 use Rattle.wh_rows.specs.declared.rows.ProfileRow.{ProfileRow}
 use Rattle.wh_store.specs.Meta.{made_with}
 use Rattle.wh_model.specs.Defined.{AreOf}
-use Rattle.wh_plan.specs.FirstRows.{IsGoodPolicy, making_row, first_profiles, calendar_rows, with_first, MayBeFirst}
-use Rattle.wh_model.specs.Sound.{making_of}
+use Rattle.wh_plan.specs.FirstRows.{IsGoodPolicy, making_row, first_profiles, calendar_rows, with_first_rows, MayBeFirst}
+use Rattle.wh_model.specs.Sound.{init_of}
 use Rattle.wh_engine.proofs.MadeRows.{first_may}
 use Rattle.wh_engine.proofs.MadeTables.{tables_are}
 
 pub record AreFirst (limits : Limits) (policy : Policy) (bytes : List ℕ) (of_command : CommandRow) (of_customer : DimRow) (of_profile : List ProfileRow) (of_calendar : List DateRow) : Type 0 where
   pub may : IsGoodPolicy policy → MayBeFirst of_command of_customer of_profile of_calendar
-  pub are : AreOf limits (making_of policy bytes ∷ []) (with_first of_command of_customer of_profile of_calendar (made_with limits))
+  pub are : AreOf limits (init_of policy bytes ∷ []) (with_first_rows of_command of_customer of_profile of_calendar (made_with limits))
 
 pub are_first : (limits : Limits) (policy : Policy) (bytes : List ℕ) (command : CommandRow) (customer : DimRow) (profiles : List ProfileRow) (calendar : List DateRow)
     → command ≡ making_row bytes → customer ≡ no_card_row (policy_types policy Customer) → profiles ≡ first_profiles (policy_types policy Customer) → calendar ≡ calendar_rows policy

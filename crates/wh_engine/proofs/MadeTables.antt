@@ -20,15 +20,15 @@ use Rattle.wh_rows.specs.declared.key.ChangeKey.{ChangeKey}
 use Rattle.wh_rows.specs.declared.rows.ProfileRow.{ProfileRow}
 use Rattle.wh_store.specs.Meta.{made_with}
 use Rattle.wh_model.specs.Defined.{command_at, member_at, change_at, profile_at, AreOf}
-use Rattle.wh_plan.specs.FirstRows.{making_row, profile_of, first_profiles, calendar_rows, with_first}
-use Rattle.wh_model.specs.Sound.{making_of}
+use Rattle.wh_plan.specs.FirstRows.{making_row, profile_of, first_profiles, calendar_rows, with_first_rows}
+use Rattle.wh_model.specs.Sound.{init_of}
 use Rattle.wh_engine.proofs.MadeCalendar.{calendar_made}
 use Rattle.wh_engine.proofs.MadeMeta.{meta_made}
 
 -- the tables of a warehouse that was just made
 abbrev pub tables_made : Limits → Policy → List ℕ → Tables
 tables_made limits policy bytes =
-    with_first (making_row bytes) (no_card_row (policy_types policy Customer)) (first_profiles (policy_types policy Customer)) (calendar_rows policy) (made_with limits)
+    with_first_rows (making_row bytes) (no_card_row (policy_types policy Customer)) (first_profiles (policy_types policy Customer)) (calendar_rows policy) (made_with limits)
 
 -- ---- tables of numbers
 
@@ -45,7 +45,7 @@ none_at (suc n) = refl
 
 module _ (limits : Limits) (policy : Policy) (bytes : List ℕ) where
   abbrev commands : List Accepted
-  commands = making_of policy bytes ∷ []
+  commands = init_of policy bytes ∷ []
 
   command_made : (number : ℕ) → get (tables_made limits policy bytes).command number ≡ command_at commands number
   command_made zero = put_other empty 1 (making_row bytes) 0 (λ is. omega arith) ∙ get-empty nat_cmp 0

@@ -19,7 +19,7 @@ use Rattle.wh_store.specs.Opening.{SparesStore, unread}
 use Rattle.wh_store.specs.Raw.{FormatIs, LimitsAre, IsRefusedOn, IsLimitless}
 use Rattle.wh_store.specs.declared.fault.OpenFault.{OpenFault}
 use Rattle.wh_store.specs.declared.fault.OpenFault.TheVariants as faults
-use Rattle.wh_engine.specs.Opened.{of_policy, of_command, policies_stored, IsTold, PolicyIs, IsPolicyless, IsSessionless, IsUnopened}
+use Rattle.wh_engine.specs.Opened.{of_policy, of_command, policies_stored, IsAsSaid, PolicyIs, IsPolicyless, IsSessionless, IsUnopened}
 use Rattle.wh_policy.specs.declared.format.Format.TheVariants.{Two}
 use Rattle.wh_sql.proofs.Sparing.{spares_where}
 
@@ -50,11 +50,11 @@ command_fault (Some row) fault is = bytes_fault (read_policy row.bytes) fault is
 module _ (stored : Stored) where
   -- ---- the policy
 
-  pub policy_said : (rows : List CommandRow) (result : Result Policy OpenFault) → AreAsked (Some last_one) row.command (policies_stored stored) rows → IsTold result (of_command (slice_get rows 0)) → IfOk result (λ policy. PolicyIs stored (Ok policy))
+  pub policy_said : (rows : List CommandRow) (result : Result Policy OpenFault) → AreAsked (Some last_one) row.command (policies_stored stored) rows → IsAsSaid result (of_command (slice_get rows 0)) → IfOk result (λ policy. PolicyIs stored (Ok policy))
   policy_said rows (Ok policy) are told = (rows, are, told)
   policy_said rows (Err fault) are told = tt
 
-  pub no_policy : (rows : List CommandRow) (result : Result Policy OpenFault) → AreAsked (Some last_one) row.command (policies_stored stored) rows → IsTold result (of_command (slice_get rows 0)) → IfErr result (IsPolicyless stored)
+  pub no_policy : (rows : List CommandRow) (result : Result Policy OpenFault) → AreAsked (Some last_one) row.command (policies_stored stored) rows → IsAsSaid result (of_command (slice_get rows 0)) → IfErr result (IsPolicyless stored)
   no_policy rows (Ok policy) are told = tt
   no_policy rows (Err faults.NotAWarehouse) are told = let never = command_fault (slice_get rows 0) faults.NotAWarehouse told in cc
   no_policy rows (Err faults.OldFormat) are told = let never = command_fault (slice_get rows 0) faults.OldFormat told in cc

@@ -29,8 +29,8 @@ use Rattle.wh_store.specs.declared.fault.OpenFault.{OpenFault}
 use Rattle.wh_admission.specs.Admission.{current_policy, AreAdmitted}
 use Rattle.wh_engine.specs.Answered.{Rests, IsReady}
 use Rattle.wh_model.specs.Defined.{AreOf, meta_at}
-use Rattle.wh_model.specs.Sound.{making_of}
-use Rattle.wh_engine.specs.Opened.{last_policy_in, of_limits, of_policy, of_command, session_in, opened, IsTold, IsRead, IsNotOpened, LeavesMaking, LeavesMade}
+use Rattle.wh_model.specs.Sound.{init_of}
+use Rattle.wh_engine.specs.Opened.{last_policy_in, of_limits, of_policy, of_command, session_in, opened, IsAsSaid, IsRead, IsNotOpened, LeavesMaking, LeavesMade}
 use Rattle.wh_model.specs.Sound.{IsAccepted}
 use Rattle.wh_store.specs.declared.fault.OpenFault.TheVariants as faults
 use Rattle.wh_engine.specs.declared.session.Session.{Session}
@@ -41,7 +41,7 @@ use Rattle.wh_engine.proofs.FoundPolicy.{first_taken, last_gives}
 -- ---- readings in turn
 
 -- what was said of rows that were read
-pub read_of_told : {A : Type 0} (result told : Result A OpenFault) (t : Tables) (s : State) → IsTold result told → ((cause : Cause) → result ≢ Err (faults.Store cause)) → IsAtRest (Some t) s → IsRead result told t s
+pub read_of_told : {A : Type 0} (result told : Result A OpenFault) (t : Tables) (s : State) → IsAsSaid result told → ((cause : Cause) → result ≢ Err (faults.Store cause)) → IsAtRest (Some t) s → IsRead result told t s
 read_of_told (Ok x) told t s is plain rests = (is, rests)
 read_of_told (Err faults.NotAWarehouse) told t s is plain rests = (is, rests)
 read_of_told (Err faults.OldFormat) told t s is plain rests = (is, rests)
@@ -171,7 +171,7 @@ pub rests_if_kept : {X : Type 0} (limits : Limits) (commands : List Accepted) (s
 rests_if_kept limits commands s t are (Ok done) rests = record { tables = t; are = are; rests = rests }
 rests_if_kept limits commands s t are (Err cause) rests = tt
 
-pub leaves_making : (limits : Limits) (policy : Policy) (bytes : List ℕ) (s : State) (t : Tables) → AreOf limits (making_of policy bytes ∷ []) t → ((trees : Trees) → s.may_leave trees → AreTrees None trees ⊎ AreTrees (Some t) trees) → LeavesMaking limits policy bytes s
+pub leaves_making : (limits : Limits) (policy : Policy) (bytes : List ℕ) (s : State) (t : Tables) → AreOf limits (init_of policy bytes ∷ []) t → ((trees : Trees) → s.may_leave trees → AreTrees None trees ⊎ AreTrees (Some t) trees) → LeavesMaking limits policy bytes s
 leaves_making limits policy bytes s t are left = record {
   each = λ trees may. elim (left trees may) [
     | inl before ↦ inl before
@@ -190,8 +190,8 @@ leaves_made limits policy bytes s written left = record {
 pub leaves_nothing : (limits : Limits) (bytes : List ℕ) (s : State) → IsAtRest None s → LeavesMade limits bytes s
 leaves_nothing limits bytes s rests = record { each = λ trees may. inl (rests.left.each trees may) }
 
-pub made_ready : (limits : Limits) (policy : Policy) (bytes : List ℕ) (s : State) → are_limits limits ≡ true → read_policy bytes ≡ Ok policy → Rests limits (making_of policy bytes ∷ []) s
-    → IsReady limits (making_of policy bytes ∷ []) (record { limits = limits; format = One; policy = policy; must_reopen = false }) s
+pub made_ready : (limits : Limits) (policy : Policy) (bytes : List ℕ) (s : State) → are_limits limits ≡ true → read_policy bytes ≡ Ok policy → Rests limits (init_of policy bytes ∷ []) s
+    → IsReady limits (init_of policy bytes ∷ []) (record { limits = limits; format = One; policy = policy; must_reopen = false }) s
 made_ready limits policy bytes s limited written rests = record {
   admitted = record { limited = limited; policy = policy; bytes = bytes; written = written; sent = []; admitted = refl };
   rests = rests;

@@ -69,10 +69,10 @@ IsLeftUnnoted limits session s (Between before after) = LeavesOneOf limits befor
 
 -- What a command's answer says, and what the work on it says: the definition's answer is due, and it leads to the list with the command.
 abbrev pub IsAnswered : Limits → List Accepted → Command → Result Reply Fault → Session → State → Type 0
-IsAnswered limits commands c result session s = Outcome (λ told. answer limits commands c ≡ told) commands (accepted_after limits commands c) result (IsLeft limits session s)
+IsAnswered limits commands c result session s = Outcome (λ due. answer limits commands c ≡ due) commands (accepted_after limits commands c) result (IsLeft limits session s)
 
 abbrev pub IsPerformed : Limits → List Accepted → Command → Result Reply Fault → Session → State → Type 0
-IsPerformed limits commands c result session s = Outcome (λ told. answer limits commands c ≡ told) commands (accepted_after limits commands c) result (IsLeftUnnoted limits session s)
+IsPerformed limits commands c result session s = Outcome (λ due. answer limits commands c ≡ due) commands (accepted_after limits commands c) result (IsLeftUnnoted limits session s)
 
 -- The plan that is due: exactly the edits that the tables need to be those of the list after the command, where that is answered; else its refusal.
 abbrev pub IsPlanOf : Limits → List Accepted → Command → Result Edits Refusal → Type 0
@@ -153,4 +153,4 @@ CountsStored format stored counts =
 
 -- What a count says: it is that of the commands, and nothing changes.
 abbrev pub IsCounted : Limits → List Accepted → Result Counts Fault → Session → State → Type 0
-IsCounted limits commands result session s = Outcome (λ told. told ≡ Ok (counts_of commands)) commands commands result (IsLeft limits session s)
+IsCounted limits commands result session s = Outcome (λ due. due ≡ Ok (counts_of commands)) commands commands result (IsLeft limits session s)

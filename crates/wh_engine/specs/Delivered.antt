@@ -90,14 +90,14 @@ as_called (Err why) = Err (Refused why)
 -- the second is what the answers to the first commands make of the first, one after the other
 abbrev pub AreLed : {X : Type 0} → (X → X → Command → Result Reply Fault → Type 0) → X → X → List (Result Reply Refusal) → List Command → Type 0
 AreLed Leads old new [] sent = new ≡ old
-AreLed Leads old new (told ∷ answers) [] = ⊥
-AreLed {X} Leads old new (told ∷ answers) (c ∷ sent) = (between : X) × Leads old between c (as_called told) × AreLed Leads between new answers sent
+AreLed Leads old new (first ∷ answers) [] = ⊥
+AreLed {X} Leads old new (first ∷ answers) (c ∷ sent) = (between : X) × Leads old between c (as_called first) × AreLed Leads between new answers sent
 
 -- the answers say this of their commands, up to the first by which something was accepted
 abbrev pub EachUntilAccepted : (Command → Result Reply Fault → Type 0) → List (Result Reply Refusal) → List Command → Type 0
 EachUntilAccepted Says [] sent = ⊤
-EachUntilAccepted Says (told ∷ answers) [] = ⊥
-EachUntilAccepted Says (told ∷ answers) (c ∷ sent) = Says c (as_called told) × (AcceptsNothing told → EachUntilAccepted Says answers sent)
+EachUntilAccepted Says (first ∷ answers) [] = ⊥
+EachUntilAccepted Says (first ∷ answers) (c ∷ sent) = Says c (as_called first) × (AcceptsNothing first → EachUntilAccepted Says answers sent)
 
 -- A delivery notes whether the database refused a call. The limits stay, and so does the policy where nothing was accepted; else it and the format are what
 -- the accepted commands make of them.

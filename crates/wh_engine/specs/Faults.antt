@@ -27,6 +27,7 @@ abbrev pub SparesStore : Fault → Type 0
 SparesStore (faults.Store cause) = ⊥
 SparesStore fault = ⊤
 
+-- there is an answer, or a fault for which the database refused no call
 abbrev pub IsServed : {A : Type 0} → Result A Fault → Type 0
 IsServed result = IfErr result SparesStore
 

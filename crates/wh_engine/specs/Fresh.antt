@@ -4,7 +4,7 @@ use Rattle.sqlite.specs.State.{State}
 use Rattle.wh_policy.specs.Policy.{read_policy}
 use Rattle.wh_policy.specs.declared.policy.Policy.{Policy}
 use Rattle.wh_history.specs.Tables.{Limits}
-use Rattle.wh_model.specs.Sound.{making_of}
+use Rattle.wh_model.specs.Sound.{init_of}
 use Rattle.wh_engine.specs.Delivered.{IsDelivered}
 use Rattle.wh_admission.specs.declared.command.Command.{Command}
 use Rattle.wh_admission.specs.declared.command.Refusal.{Refusal}
@@ -17,4 +17,4 @@ pub record IsDeliveredFresh (limits : Limits) (bytes : List ℕ) (sent : List Co
   pub policy : Policy
   pub read : read_policy bytes ≡ Ok policy
   pub session : Session
-  pub delivered : IsDelivered limits (making_of policy bytes ∷ []) sent answers stop session s
+  pub delivered : IsDelivered limits (init_of policy bytes ∷ []) sent answers stop session s

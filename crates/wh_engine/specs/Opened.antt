@@ -29,7 +29,7 @@ use Rattle.wh_store.specs.Raw.{FormatIs, LimitsAre, IsRefusedOn, IsLimitless}
 use Rattle.wh_sql.specs.declared.fault.ReadFault.TheVariants as reading
 use Rattle.wh_store.specs.declared.fault.OpenFault.{OpenFault}
 use Rattle.wh_engine.specs.Answered.{Rests, AreTreesOf, LeavesOneOf}
-use Rattle.wh_model.specs.Sound.{making_of}
+use Rattle.wh_model.specs.Sound.{init_of}
 use Rattle.wh_engine.specs.declared.engine.Engine.{Engine}
 use Rattle.wh_engine.specs.declared.opening.InitFault.{InitFault}
 use Rattle.wh_engine.specs.declared.opening.InitFault.TheVariants as init
@@ -79,15 +79,15 @@ unfoldable pub opened : Tables → Result Session OpenFault
 opened t = format_of Two (is_two t.format) (number_in t (codes "format")) >>= λ format. session_in format t
 
 -- what was read is what the bytes say, or memory ran out
-abbrev pub IsTold : {A : Type 0} → Result A OpenFault → Result A OpenFault → Type 0
-IsTold (Err faults.Memory) told = Unit {0}
-IsTold result told = told ≡ result
+abbrev pub IsAsSaid : {A : Type 0} → Result A OpenFault → Result A OpenFault → Type 0
+IsAsSaid (Err faults.Memory) said = Unit {0}
+IsAsSaid result said = said ≡ result
 
 -- What was read of tables at rest is what they say, or the first fault that is met, or memory ran out, and nothing changed; or the store
 -- refused a call, and a crash leaves what was held.
 abbrev pub IsRead : {A : Type 0} → Result A OpenFault → Result A OpenFault → Tables → State → Type 0
-IsRead (Err (faults.Store cause)) told t s = Leaves (Some t) s
-IsRead result told t s = IsTold result told × IsAtRest (Some t) s
+IsRead (Err (faults.Store cause)) said t s = Leaves (Some t) s
+IsRead result said t s = IsAsSaid result said × IsAtRest (Some t) s
 
 -- ---- the same of any stored rows
 
@@ -136,11 +136,11 @@ IsNotOpened limits commands fault s = ⊥
 
 -- a crash leaves a database with no object in it, or the tables of the making
 pub record LeavesMaking (limits : Limits) (policy : Policy) (bytes : List ℕ) (s : State) : Type 0 where
-  pub each : (trees : Trees) → s.may_leave trees → AreTrees None trees ⊎ AreTreesOf limits (making_of policy bytes ∷ []) trees
+  pub each : (trees : Trees) → s.may_leave trees → AreTrees None trees ⊎ AreTreesOf limits (init_of policy bytes ∷ []) trees
 
 -- a crash leaves a database with no object in it, or, where the bytes give a policy, the tables of the making
 pub record LeavesMade (limits : Limits) (bytes : List ℕ) (s : State) : Type 0 where
-  pub each : (trees : Trees) → s.may_leave trees → AreTrees None trees ⊎ ((policy : Policy) × (read_policy bytes ≡ Ok policy) × AreTreesOf limits (making_of policy bytes ∷ []) trees)
+  pub each : (trees : Trees) → s.may_leave trees → AreTrees None trees ⊎ ((policy : Policy) × (read_policy bytes ≡ Ok policy) × AreTreesOf limits (init_of policy bytes ∷ []) trees)
 
 -- Why no warehouse was made: the bytes' first fault; or the bytes give a policy, and a name of the twelve tables is taken; or memory ran out; or the
 -- bytes give a policy, and the database refused a call.

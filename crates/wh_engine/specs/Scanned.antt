@@ -76,9 +76,9 @@ pub record Reads {S A : Type 0} (g : Ghosts S) (old new : Tables S) (result : Re
   pub taken : TellsTaken (is_second_taken (state_of g new).now.schema) result
 
 -- this is told exactly where the engine had to be opened again, and then all is as it was
-pub record Shuts {S : Type 0} (old new : Engine S) (told : Type 0) : Type 0 where
-  pub same : IsTrue old.session.must_reopen → told × (new.tables ≡ old.tables) × (new.session ≡ old.session)
-  pub only : told → IsTrue old.session.must_reopen
+pub record Shuts {S : Type 0} (old new : Engine S) (said : Type 0) : Type 0 where
+  pub same : IsTrue old.session.must_reopen → said × (new.tables ≡ old.tables) × (new.session ≡ old.session)
+  pub only : said → IsTrue old.session.must_reopen
 
 -- where the database refuses a call the engine has to be opened again, and stays so
 abbrev pub noting : {A : Type 0} → Session → Result A Fault → Session

@@ -40,7 +40,7 @@ pub struct Counts {
 /// How many members a dimension has.
 fn member_count<S: Alter>(tables: &mut Tables<S>, alloc: Global, dim: Dim) -> Result<u64, Fault>
     ensures reads { Reads S.Store tables.old tables.new result }
-    ensures members { WhenAtRest S.Store tables.old tables.new (λ t. (limits : Limits) (commands : List Accepted) → AreOf limits commands t → Judges (λ count told. count ≡ told) result (Ok (length (members dim commands)))) }
+    ensures members { WhenAtRest S.Store tables.old tables.new (λ t. (limits : Limits) (commands : List Accepted) → AreOf limits commands t → Judges (λ count due. count ≡ due) result (Ok (length (members dim commands)))) }
 {
     let last = last_member(tables, alloc, dim)?;
     Ok(last.durable)
@@ -53,7 +53,7 @@ fn counts_of<S: Alter>(
     format: Format,
 ) -> Result<Counts, Fault>
     ensures reads { Reads S.Store tables.old tables.new result }
-    ensures counts { WhenAtRest S.Store tables.old tables.new (λ t. (limits : Limits) (commands : List Accepted) → AreOf limits commands t → IsAccepted limits commands → format ≡ format_of commands → Judges (λ counts told. counts ≡ told) result (Ok (counts_of commands))) }
+    ensures counts { WhenAtRest S.Store tables.old tables.new (λ t. (limits : Limits) (commands : List Accepted) → AreOf limits commands t → IsAccepted limits commands → format ≡ format_of commands → Judges (λ counts due. counts ≡ due) result (Ok (counts_of commands))) }
     ensures stored { WhenStored S.Store tables.old tables.new (λ stored. IfOk result (CountsStored format stored)) }
 {
     let commands = tables.count::<tables::Command>(alloc)?;

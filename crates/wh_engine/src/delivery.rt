@@ -50,7 +50,7 @@ impl<S: Alter> Engine<S> {
         // Up to the first acceptance: that a command came again is answered only where an undamaged row is stored with its id, kind and bytes, and
         // that a name of the second format is taken only where it is.
         ensures again { WhenStored S.Store self.old.tables self.new.tables (λ stored. EachUntilAccepted (IsAgain stored) result.answers.items commands.now) }
-        ensures taken { HasCleanDisk (state_of S.Store self.new.tables) → EachUntilAccepted (λ _ told. TellsTaken (is_second_taken (state_of S.Store self.old.tables).now.schema) told) result.answers.items commands.now }
+        ensures taken { HasCleanDisk (state_of S.Store self.new.tables) → EachUntilAccepted (λ _ said. TellsTaken (is_second_taken (state_of S.Store self.old.tables).now.schema) said) result.answers.items commands.now }
         ensures shuts { Shuts self.old self.new (result.stop ≡ Some Fault.Reopen) }
         // As many keys are written as the last command writes, and none where the delivery was stopped or nothing was accepted.
         ensures written { WhenReady S.Store self.old self.new (λ limits accepted _ _. IsDeliveryWritten limits accepted commands.now result.stop self.new.writes) }

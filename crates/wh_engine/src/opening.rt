@@ -13,14 +13,14 @@ ghost use Rattle.wh_store.specs.Raw.{FormatIs};
 ghost use Rattle.wh_rows.specs.Raw.{RestsOn, LeavesStored};
 ghost use Rattle.wh_engine.specs.Answered.{Rests, IsReady};
 ghost use Rattle.wh_plan.specs.FirstRows.{IsGoodPolicy};
-ghost use Rattle.wh_model.specs.Sound.{making_of};
-ghost use Rattle.wh_engine.specs.Opened.{of_command, last_policy_in, session_in, opened, IsTold, IsRead, PolicyIs, IsPolicyless, SessionIs, IsSessionless, IsUnopened, IsNotOpened, LeavesMaking, IsNotMade, NothingIsWritten, LeavesMade, WhenAdmitted, WhenNothing, IfOpened, IfHandedBack};
+ghost use Rattle.wh_model.specs.Sound.{init_of};
+ghost use Rattle.wh_engine.specs.Opened.{of_command, last_policy_in, session_in, opened, IsAsSaid, IsRead, PolicyIs, IsPolicyless, SessionIs, IsSessionless, IsUnopened, IsNotOpened, LeavesMaking, IsNotMade, NothingIsWritten, LeavesMade, WhenAdmitted, WhenNothing, IfOpened, IfHandedBack};
 ghost use Rattle.wh_engine.specs.Scanned.{SparesIn, WasClean, WhenAtRest, WhenStored};
 ghost use Rattle.wh_store.specs.declared.fault.OpenFault.TheVariants.{Store};
 ghost use Rattle.wh_rows.specs.declared.cause.Cause.{Cause};
 
 use crate::engine::Engine;
-use crate::making::write_making;
+use crate::init::write_init;
 use crate::session::Session;
 use sqlite::{Alter, Connection};
 use std::alloc::Global;
@@ -28,7 +28,7 @@ use thiserror::Error;
 use wh_day::ParseError;
 use wh_policy::{Format, Policy, PolicyFault};
 use wh_rows::{Cause, CommandRow, Limits, Table, tables};
-use wh_store::{LastPolicy, MakeFault, OpenFault, Tables};
+use wh_store::{LastPolicy, NotFree, OpenFault, Tables};
 
 /// Why no warehouse was made.
 #[derive(Clone, Copy, Debug, PartialEq, Eq, Error)]
@@ -48,7 +48,7 @@ pub enum InitFault {
 }
 
 /// Makes the tables in one transaction, and keeps them.
-fn commit_making<S: Alter>(
+fn commit_init<S: Alter>(
     tables: &mut Tables<S>,
     alloc: Global,
     limits: Limits,
@@ -56,17 +56,17 @@ fn commit_making<S: Alter>(
     bytes: &[u8],
 ) -> Result<u64, Cause>
     ensures clean { WasClean S.Store tables.old tables.new }
-    ensures made { WhenNothing (state_of S.Store tables.old) (state_of S.Store tables.new) (IsGoodPolicy policy.now → OnOk result (Rests limits (making_of policy.now bytes.now ∷ []) (state_of S.Store tables.new))) }
+    ensures made { WhenNothing (state_of S.Store tables.old) (state_of S.Store tables.new) (IsGoodPolicy policy.now → OnOk result (Rests limits (init_of policy.now bytes.now ∷ []) (state_of S.Store tables.new))) }
     ensures left { WhenNothing (state_of S.Store tables.old) (state_of S.Store tables.new) (IsGoodPolicy policy.now → LeavesMaking limits policy.now bytes.now (state_of S.Store tables.new)) }
 {
     let mut writing = tables.begin()?;
-    write_making(&mut writing, alloc, limits, policy, bytes)?;
+    write_init(&mut writing, alloc, limits, policy, bytes)?;
     writing.commit()
 }
 
 /// The policy that the first of these commands gives.
 fn policy_of(alloc: Global, commands: &[CommandRow]) -> Result<Policy, OpenFault>
-    ensures told { IsTold result (of_command (slice_get commands.now 0)) }
+    ensures said { IsAsSaid result (of_command (slice_get commands.now 0)) }
     ensures pure { (cause : Cause) → result ≢ Err (Store cause) }
 {
     let Some(command) = commands.first() else {
@@ -127,7 +127,7 @@ impl<S: Alter> Engine<S> {
         policy: &[u8],
         limits: Limits,
     ) -> Result<Engine<S>, (InitFault, Connection<S>)>
-        ensures made { IfOpened S.Store conn result (λ old new engine. WhenNothing old new (IsReady limits (making_of engine.session.policy policy.now ∷ []) engine.session new)) }
+        ensures made { IfOpened S.Store conn result (λ old new engine. WhenNothing old new (IsReady limits (init_of engine.session.policy policy.now ∷ []) engine.session new)) }
         ensures written { IfOk result (λ engine. (read_policy policy.now ≡ Ok engine.session.policy) × (is_any_taken (state S.Store conn).now.schema ≡ false)) }
         ensures refused { IfErr result (λ e. IsNotMade policy.now (is_any_taken (state S.Store conn).now.schema) e.0) }
         ensures same { IfErr result (λ e. NothingIsWritten e.0 → e.1 ≡ conn) }
@@ -143,12 +143,12 @@ impl<S: Alter> Engine<S> {
             Err(ParseError::Memory) => return Err((InitFault::Memory, conn)),
             Err(ParseError::Fault(fault)) => return Err((InitFault::Policy(fault), conn)),
         };
-        let mut tables = match Tables::make(conn) {
+        let mut tables = match Tables::for_init(conn) {
             Ok(tables) => tables,
-            Err((MakeFault::NotEmpty, conn)) => return Err((InitFault::NotEmpty, conn)),
-            Err((MakeFault::Store(cause), conn)) => return Err((InitFault::Store(cause), conn)),
+            Err((NotFree::NotEmpty, conn)) => return Err((InitFault::NotEmpty, conn)),
+            Err((NotFree::Store(cause), conn)) => return Err((InitFault::Store(cause), conn)),
         };
-        match commit_making(&mut tables, alloc, limits, &read, policy) {
+        match commit_init(&mut tables, alloc, limits, &read, policy) {
             Ok(_) => Ok(Engine {
                 tables,
                 session: Session {

@@ -6,7 +6,7 @@ ghost use Rattle.std.specs.FinMap.{values};
 ghost use Rattle.sqlite.specs.Order.{Row as Columns};
 ghost use Rattle.wh_rows.specs.Parts.{IsArranged};
 ghost use Rattle.wh_rows.specs.Raw.{Stored};
-ghost use Rattle.wh_rows.specs.Tables.{Tables as TenTables};
+ghost use Rattle.wh_rows.specs.Tables.{Tables as TypedTables};
 ghost use Rattle.wh_store.specs.Scan.{rows_left, AreLeft};
 ghost use Rattle.wh_engine.specs.Faults.{IsWorkedOut};
 ghost use Rattle.wh_engine.specs.Handed.{HandsNext, Ends};
@@ -117,7 +117,7 @@ impl<S: Alter> Engine<S> {
         ensures* refused { sem 𝓛 (RestsIfErr (the_row S.row S.Store) self.entry (λ scan. scan.engine.ghost_name) result (λ last. (last.tables ≡ self.old.tables) × (last.session ≡ self.old.session) × (last.writes ≡ self.old.writes))) }
         ensures same_reference { IfOk result (λ scan. scan.engine.ghost_name ≡ self.entry.ghost_name) }
         ensures same { IfOk result (λ scan. scan.engine.now ≡ self.old) }
-        ensures left { IfOk result (λ scan. (t : TenTables) → rows_left T.StoredTable.layout (T.StoredTable.rows t) scan.cursor ≡ values (T.StoredTable.rows t)) }
+        ensures left { IfOk result (λ scan. (t : TypedTables) → rows_left T.StoredTable.layout (T.StoredTable.rows t) scan.cursor ≡ values (T.StoredTable.rows t)) }
         ensures left_stored { IfOk result (λ scan. (stored : Stored) (left : List Columns) → AreLeft T.StoredTable.layout T.KeyedTable.bind (stored.rows T.KeyedTable.name) scan.cursor left → IsArranged T.StoredTable.layout.table (stored.rows T.KeyedTable.name) left) }
         // It is refused exactly where the engine has to be opened again.
         ensures reopen { MatchResult result (λ _. self.old.session.must_reopen ≡ false) (λ fault. (fault ≡ Fault.Reopen) × IsTrue self.old.session.must_reopen) }

@@ -34,7 +34,7 @@ fn edit_format<S: Alter>(writing: &mut Writing<'_, S>, edits: &Edits) -> Result<
     ensures counted { OnOk result (writing.new.writes ≡ writing.old.writes) }
 {
     if edits.upgrades {
-        return writing.add_second();
+        return writing.add_format2_tables();
     }
     Ok(())
 }

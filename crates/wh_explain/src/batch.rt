@@ -165,17 +165,17 @@ fn push_row(text: &mut Vec<u8>, batch: &Batch, fault: &ListedFault) -> Result<()
     push!(text; "\n")
 }
 
-/// The lines on the faults of a row's fields beside the one that was told of it.
+/// The lines on the faults of a row's fields beside the first, which is shown already.
 fn push_further(
     text: &mut Vec<u8>,
     alloc: Global,
     batch: &Batch,
-    told: &ListedFault,
+    first: &ListedFault,
 ) -> Result<(), AllocError> {
-    let further = further_faults(alloc, batch, told)?;
+    let further = further_faults(alloc, batch, first)?;
     for found in &further {
         if let Some(field) = &found.field {
-            push!(text; LineAt(batch.bytes, told.row.start))?;
+            push!(text; LineAt(batch.bytes, first.row.start))?;
             push_field(text, batch, found.fault.kind, field)?;
             push!(text; "\n")?;
         }

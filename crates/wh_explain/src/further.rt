@@ -1,4 +1,4 @@
-//! The faults of a record beside the one that is told first, by the reader that found that one.
+//! The faults of a record beside the first, by the reader that found that one.
 
 use crate::batch::Batch;
 use crate::header::push_names;
@@ -93,11 +93,11 @@ fn fields_in(alloc: Global, row: &[u8]) -> Result<ByteRecord, AllocError> {
     }
 }
 
-/// The faults of the fields of these, but for the told one's.
+/// The faults of these fields, but for the first fault's own.
 fn faults_among(
     alloc: Global,
     batch: &Batch,
-    told: &ListedFault,
+    first: &ListedFault,
     fields: &ByteRecord,
 ) -> Result<Vec<RecordFault>, AllocError> {
     let mut all = Vec::new(alloc);
@@ -105,7 +105,7 @@ fn faults_among(
         let Some(field) = fields.get(place) else {
             return Ok(all);
         };
-        if is_at(told, place) {
+        if is_at(first, place) {
             continue;
         }
         if let Some(found) = fault_of_field(alloc, batch, place, field)? {
@@ -115,15 +115,15 @@ fn faults_among(
     Ok(all)
 }
 
-/// The faults of a row's fields beside the one that was told of it, from left to right.
+/// The faults of a row's fields beside the first, from left to right.
 pub(crate) fn further_faults(
     alloc: Global,
     batch: &Batch,
-    told: &ListedFault,
+    first: &ListedFault,
 ) -> Result<Vec<RecordFault>, AllocError> {
-    if !has_more(told.fault.fault.kind) {
+    if !has_more(first.fault.fault.kind) {
         return Ok(Vec::new(alloc));
     }
-    let fields = fields_in(alloc, told.row.bytes_in(batch.bytes))?;
-    faults_among(alloc, batch, told, &fields)
+    let fields = fields_in(alloc, first.row.bytes_in(batch.bytes))?;
+    faults_among(alloc, batch, first, &fields)
 }

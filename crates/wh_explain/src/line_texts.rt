@@ -56,7 +56,7 @@ fn push_missing(text: &mut Vec<u8>, lines: &TracedLines, place: usize) -> Result
     }
 }
 
-/// The ticket and the line in a place.
+/// The ticket and the line number of the record at this place of the batch, counted from 0.
 fn push_ticket(text: &mut Vec<u8>, lines: &TracedLines, place: usize) -> Result<(), AllocError> {
     let Some(line) = lines.line_at(place) else {
         return Ok(());

@@ -113,20 +113,20 @@ fn add_record(
     member: &mut Member,
     members: &mut u64,
     anchors: &mut u64,
-    told: &DimensionRecord,
+    incoming: &DimensionRecord,
 ) -> Result<(), AllocError>
     requires members { members.old + 1 < 2 ^ 64 }
     requires anchors { anchors.old + 2 < 2 ^ 64 }
-    ensures member { OnOk result (member.new ≡ with_record members.old anchors.old member.old told.now) }
+    ensures member { OnOk result (member.new ≡ with_record members.old anchors.old member.old incoming.now) }
     ensures members { OnOk result (members.new ≡ grown member.old.durable members.old) }
-    ensures anchors { OnOk result (anchors.new ≡ anchors_with anchors.old member.old told.now) }
+    ensures anchors { OnOk result (anchors.new ≡ anchors_with anchors.old member.old incoming.now) }
 {
     give_numbers(member, members, anchors);
-    let given = anchor_of_day(member.changes.as_slice(), told.day);
+    let given = anchor_of_day(member.changes.as_slice(), incoming.day);
     let anchor = number_or_next(given, anchors);
-    let values = padded(alloc, &told.values)?;
+    let values = padded(alloc, &incoming.values)?;
     member.changes.push(Change {
-        day: told.day,
+        day: incoming.day,
         anchor,
         values,
     })?;
@@ -182,13 +182,13 @@ fn touch<S: MemberSource>(
     alloc: Global,
     stored: &S,
     touching: &mut Touching,
-    told: &DimensionRecord,
+    incoming: &DimensionRecord,
 ) -> Result<(), ParseError<S::Fault>>
     requires naturals { map (λ n. string_bytes n) touching.old.naturals.keys ≡ map (λ m. m.natural) touching.old.list.items }
     requires members { touching.old.members + 1 < 2 ^ 64 }
     requires anchors { touching.old.anchors + 2 < 2 ^ 64 }
     ensures naturals { OnOk result (map (λ n. string_bytes n) touching.new.naturals.keys ≡ map (λ m. m.natural) touching.new.list.items) }
-    ensures touched { OnOk result (record { members = touching.new.members; anchors = touching.new.anchors; owners = touching.new.owners.items; list = touching.new.list.items } ≡ touch (S.stored stored.now) (record { members = touching.old.members; anchors = touching.old.anchors; owners = touching.old.owners.items; list = touching.old.list.items }) told.now) }
+    ensures touched { OnOk result (record { members = touching.new.members; anchors = touching.new.anchors; owners = touching.new.owners.items; list = touching.new.list.items } ≡ touch (S.stored stored.now) (record { members = touching.old.members; anchors = touching.old.anchors; owners = touching.old.owners.items; list = touching.old.list.items }) incoming.now) }
 {
     let given = touching.anchors;
     let place = place_or_add(
@@ -196,7 +196,7 @@ fn touch<S: MemberSource>(
         stored,
         &mut touching.naturals,
         &mut touching.list,
-        &told.natural,
+        &incoming.natural,
     )?;
     let member = &mut touching.list[place];
     add_record(
@@ -204,7 +204,7 @@ fn touch<S: MemberSource>(
         member,
         &mut touching.members,
         &mut touching.anchors,
-        told,
+        incoming,
     )?;
     let durable = member.durable;
     add_owners(&mut touching.owners, touching.anchors - given, durable)?;
@@ -231,8 +231,8 @@ pub fn touch_all<S: MemberSource>(
         owners: Vec::new(alloc),
         list: Vec::new(alloc),
     };
-    for told in records {
-        touch(alloc, stored, &mut touching, told)?;
+    for incoming in records {
+        touch(alloc, stored, &mut touching, incoming)?;
     }
     Ok(TouchedMembers {
         members: touching.members,

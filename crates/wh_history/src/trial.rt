@@ -55,8 +55,8 @@ fn trial_profiles(
     ensures { IfOk result (λ found. found ≡ all_numbered (combinations_of types.now records.now)) }
 {
     let mut found = Profiles::new(alloc);
-    for told in records {
-        found.add_next(profile_texts(alloc, types, told.values.as_slice())?)?;
+    for incoming in records {
+        found.add_next(profile_texts(alloc, types, incoming.values.as_slice())?)?;
     }
     Ok(found)
 }

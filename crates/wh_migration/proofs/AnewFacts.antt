@@ -110,6 +110,7 @@ module _ (limits : Limits) (commands : List Accepted) (c : Accepted) (t : Tables
       by_row None at h = absurd cc
       by_row (Some old) at h = let same = moved_has old f (keys old) h in (old, at, sym same ∙ ap (λ (g : Fact). with_keys old g.keys) same)
 
+  -- the facts that get other keys lead from the facts of the list to those of the list with the command
   pub moves_are : AreFacts (fact_at commands) (fact_at (commands ++ c ∷ [])) (filter_map (λ f. rekeyed_to f (keys f)) (values (facts_of t)))
   moves_are = record {
     lead = moves_lead;
@@ -117,6 +118,7 @@ module _ (limits : Limits) (commands : List Accepted) (c : Accepted) (t : Tables
     once = moves_once;
   }
 
+  -- each of them is a fact that stood, with other keys
   pub moves_rekeyed : AreRekeyed (fact_at commands) (filter_map (λ f. rekeyed_to f (keys f)) (values (facts_of t)))
   moves_rekeyed = all_weaker (λ f. find (has_line (row.fact.key f)) moves ≡ Some f) (λ f. (old : Fact) × (fact_at commands (row.fact.key f) ≡ Some old) × (f ≡ record old { keys = f.keys })) moved_stood moves (found_each moves moves_once)
 
@@ -243,6 +245,7 @@ shown_is dim commands read known s member known_is are =
     let made : make s.shape s.list ≡ make (shape dim commands) (map (rendered_in (shape dim commands)) (all_members dim commands)) = rw (shape_is, list_is) refl in
     made
 
+-- the keys by the dimensions that the code shows are those by all members
 pub keys_shown : (commands : List Accepted) (read : WarehouseMembers) (known : List NumberedProfile) (d : ShownDimensions) → AreWarehouseMembers commands read → known ≡ all_numbered (profiles_of commands) → AreAllShown read known d → (f : Fact) → keys_anew d f ≡ keys_all commands f
 keys_shown commands read known d members known_is are f =
     let stores = shown_is Store commands read.stores known (showing d.stores) members.stores known_is are.stores in
@@ -252,6 +255,7 @@ keys_shown commands read known d members known_is are f =
     ∙ ap (λ x. keys_by (keys_given (shown_all Store commands) f.store_durable f.day) (keys_given x f.product_durable f.day) (keys_given (showing d.customers) f.customer_durable f.day)) products
     ∙ ap (λ x. keys_by (keys_given (shown_all Store commands) f.store_durable f.day) (keys_given (shown_all Product commands) f.product_durable f.day) (keys_given x f.customer_durable f.day)) customers
 
+-- so the facts that the code moves are those that get other keys
 pub moved_shown : (commands : List Accepted) (d : ShownDimensions) → ((f : Fact) → keys_anew d f ≡ keys_all commands f) → (facts : List Fact) → moved_anew d facts ≡ filter_map (λ f. rekeyed_to f (keys_all commands f)) facts
 moved_shown commands d same [] = refl
 moved_shown commands d same (f ∷ fs) =

@@ -27,7 +27,7 @@ use Rattle.wh_rows.specs.declared.rows.MemberRow.{MemberRow}
 use Rattle.wh_rows.specs.Limits.{are_limits}
 use Rattle.wh_rows.specs.Tables.{Tables}
 use Rattle.wh_model.specs.Defined.{member_at, change_at, profile_at as profile_row_at, fact_at, fact_in, AreOf}
-use Rattle.wh_model.specs.Sound.{making_of, same_line, IsAccepted}
+use Rattle.wh_model.specs.Sound.{init_of, same_line, IsAccepted}
 
 -- the rows of a dimension show no profile
 abbrev pub ShowsNoProfile : List Accepted → Dim → Type 0
@@ -49,7 +49,7 @@ SoundPoliciesShowNone = (commands : List Accepted) → ((policy : Policy) → po
 
 -- A making under a policy that was read begins such a list.
 abbrev pub AcceptedListsBegin : Type 0
-AcceptedListsBegin = (limits : Limits) (policy : Policy) (bytes : List ℕ) → are_limits limits ≡ true → read_policy bytes ≡ Ok policy → IsAccepted limits (making_of policy bytes ∷ [])
+AcceptedListsBegin = (limits : Limits) (policy : Policy) (bytes : List ℕ) → are_limits limits ≡ true → read_policy bytes ≡ Ok policy → IsAccepted limits (init_of policy bytes ∷ [])
 
 -- In the tables of accepted commands no two commands have one id, and no two members of a dimension one natural key: no row that is put
 -- meets a second key that is taken.

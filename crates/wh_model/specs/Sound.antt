@@ -64,15 +64,15 @@ abbrev pub changes_kept : List Accepted → ℕ
 changes_kept commands = length (described Product commands) + length (described Store commands) + length (described Customer commands)
 
 -- the command that a making is
-abbrev pub making_of : Policy → List ℕ → Accepted
-making_of policy bytes = record { id = codes "init"; kind = codes "init"; bytes = bytes; content = Governs policy }
+abbrev pub init_of : Policy → List ℕ → Accepted
+init_of policy bytes = record { id = codes "init"; kind = codes "init"; bytes = bytes; content = Governs policy }
 
 -- It begins with a making under the policy of its bytes.
 pub record IsBegun (commands : List Accepted) : Type 0 where
   pub policy : Policy
   pub bytes : List ℕ
   pub rest : List Accepted
-  pub making : commands ≡ making_of policy bytes ∷ rest
+  pub making : commands ≡ init_of policy bytes ∷ rest
   pub written : read_policy bytes ≡ Ok policy
 
 -- a making or a migration gives the policy of its bytes, and no other command gives one

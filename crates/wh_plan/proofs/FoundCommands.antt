@@ -1,4 +1,4 @@
--- The rows of table command.
+-- The rows of table command in order of their numbers, and the row with an id.
 use Rattle.std.proofs.Common.{◌≡◌, ℕ, suc, ◌+◌, ◌<◌, ◌≤◌, true, false, cond, List, [], ◌∷◌, filter, length, Option, Some, None, refl, sym, ◌∙◌, ap, arith, map}
 use Rattle.std.specs.Prelude.{bytes_eq, option_map, find, filter_map}
 use Rattle.std.specs.List.{range_with_len}
@@ -21,9 +21,11 @@ use Rattle.wh_model.proofs.Listed.{passes_at, values-numbered, len-values, lengt
 use Rattle.wh_model.proofs.FoundPlaces.{same_text_is, text_itself, at_place-map, at_place_there, behind_one, place_given, place_at, once_is}
 use Rattle.wh_model.proofs.GrownKeys.{at_past}
 
+-- the row of a command that has this number
 abbrev pub stored : ℕ → Told → CommandRow
 stored number c = record { number = number; id = c.id; kind = c.kind; bytes = c.bytes; records = c.records; placeholders = c.placeholders }
 
+-- what table command says of an accepted command with this number
 abbrev pub told : List Accepted → ℕ → Accepted → Told
 told commands number c = record { id = c.id; kind = c.kind; bytes = c.bytes; records = records_by c.content; placeholders = placeholders_by commands number c.content }
 

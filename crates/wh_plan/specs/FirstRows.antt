@@ -49,9 +49,9 @@ first_profiles kinds = profile_of 0 no_card_text kinds ∷ profile_of 1 unknown_
 abbrev pub calendar_rows : Policy → List DateRow
 calendar_rows policy = filter_map (day_at policy) (numbers_after (policy.years.first * 10000 + 100) (policy.years.last * 10000 + 1231))
 
--- the tables with a row of command and one of customer, and with rows of profile and calendar
-abbrev pub with_first : CommandRow → DimRow → List ProfileRow → List DateRow → Tables → Tables
-with_first command customer profiles calendar t = record t {
+-- the tables with the rows that a making writes: one of command, one of customer, and those of profile and calendar
+abbrev pub with_first_rows : CommandRow → DimRow → List ProfileRow → List DateRow → Tables → Tables
+with_first_rows command customer profiles calendar t = record t {
   command = with_row row.command command t.command;
   customer = with_row row.customer customer t.customer;
   profile = with_rows row.profile profiles t.profile;

@@ -48,13 +48,13 @@ earlier day None = day
 earlier day (Some other) = if nat_lt other day then other else day
 
 -- the first day of which the batch can move a fact, with one more touched member
-abbrev pub with_first : Member × RenderedMember → Option ℕ → Option ℕ
-with_first t first = if nat_lt 0 t.0.durable then Some (earlier (moves_since t.0.changes t.1.member.changes) first) else first
+abbrev pub first_with : Member × RenderedMember → Option ℕ → Option ℕ
+first_with t first = if nat_lt 0 t.0.durable then Some (earlier (moves_since t.0.changes t.1.member.changes) first) else first
 
 -- the same of all; none if no touched member is stored
 abbrev pub first_moving : List (Member × RenderedMember) → Option ℕ
 first_moving [] = None
-first_moving (t ∷ ts) = with_first t (first_moving ts)
+first_moving (t ∷ ts) = first_with t (first_moving ts)
 
 -- ---- by their durable keys
 

@@ -37,8 +37,8 @@ pub(crate) fn naturals_told(
 {
     let mut named = IndexSet::new(alloc);
     let mut naturals = Vec::new(alloc);
-    for told in records {
-        add_natural(alloc, &mut named, &mut naturals, &told.natural)?;
+    for incoming in records {
+        add_natural(alloc, &mut named, &mut naturals, &incoming.natural)?;
     }
     Ok(naturals)
 }

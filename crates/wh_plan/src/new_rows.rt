@@ -50,19 +50,19 @@ fn row_of_record(
     alloc: Global,
     dim: Dim,
     key: ChangeKey,
-    told: &DimensionRecord,
+    incoming: &DimensionRecord,
     member: &Member,
 ) -> Result<ChangeRow, AllocError>
-    ensures { IfOk result (λ row. row ≡ row_of_record dim key.command key.place told.now member.now) }
+    ensures { IfOk result (λ row. row ≡ row_of_record dim key.command key.place incoming.now member.now) }
 {
     Ok(ChangeRow {
         command: key.command,
         place: key.place,
         dim,
         durable: member.durable,
-        day: told.day,
-        anchor: anchor_of_day(member.changes.as_slice(), told.day),
-        values: six_texts(alloc, &told.values)?,
+        day: incoming.day,
+        anchor: anchor_of_day(member.changes.as_slice(), incoming.day),
+        values: six_texts(alloc, &incoming.values)?,
     })
 }
 
@@ -82,11 +82,11 @@ pub fn new_change_rows(
 {
     let found = by_natural(alloc, touched)?;
     let mut rows = Vec::new(alloc);
-    for (place, told) in records.iter().enumerate() {
-        if let Some(member) = found.get(told.natural.as_str()).copied() {
+    for (place, incoming) in records.iter().enumerate() {
+        if let Some(member) = found.get(incoming.natural.as_str()).copied() {
             let place = place as u64 + 1;
             let key = ChangeKey { command, place };
-            rows.push(row_of_record(alloc, dim, key, told, member)?)?;
+            rows.push(row_of_record(alloc, dim, key, incoming, member)?)?;
         }
     }
     Ok(rows)

@@ -61,10 +61,10 @@ fn combinations_told(
     ensures { IfOk result (λ found. found.items ≡ with_combinations [] (told_of types.now records.now)) }
 {
     let mut found = Vec::new(alloc);
-    for told in records {
+    for incoming in records {
         add_combination(
             &mut found,
-            profile_texts(alloc, types, told.values.as_slice())?,
+            profile_texts(alloc, types, incoming.values.as_slice())?,
         )?;
     }
     Ok(found)
@@ -276,11 +276,11 @@ fn learned_of_customers<S: Alter>(
     ensures reads { ReadsOnly (state_of S.Store tables.old) (state_of S.Store tables.new) result }
     ensures learned { Finds (state_of S.Store tables.old) (state_of S.Store tables.new) (λ limits commands. (c : Accepted) → IsAccepted limits (commands ++ c ∷ []) → c.content ≡ Describes Customer batch.now.records.now → AreTypes commands Customer batch.now.types.now → IfOk result (IsLearned Customer batch.now.types.now commands (commands ++ c ∷ []) touched.now)) }
 {
-    let told = combinations_told(alloc, batch.types, batch.records)?;
+    let brought = combinations_told(alloc, batch.types, batch.records)?;
     let all = combinations_touched(alloc, batch.types, batch.records, touched)?;
     let mut known = looked_up(tables, alloc, &all)?;
     let given = profiles_given(tables, alloc)?;
-    let combinations = unknown(alloc, &known, &told)?;
+    let combinations = unknown(alloc, &known, &brought)?;
     let fresh = add_fresh(alloc, &mut known, given + 1, &combinations)?;
     Ok(KnownProfiles { known, fresh })
 }

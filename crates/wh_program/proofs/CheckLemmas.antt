@@ -29,15 +29,15 @@ use Rattle.wh_engine.specs.declared.session.Session.{Session}
 use Rattle.wh_program.specs.Check.{IsFoundClean, IsVerdictOn, Checks}
 use Rattle.wh_program.specs.Reply.{opening_answer, verdict_answer}
 use Rattle.wh_program.specs.Standing.{DatabaseContent, Nothing, Holds, Keeps, Is, Standing, Rests, LeftAt, LeavesEither, LeavesIt, IsAt, Stands}
-use Rattle.wh_program.specs.Warehouse.{Told, LooksAt, IsOpenedBy}
+use Rattle.wh_program.specs.Warehouse.{Shown, LooksAt, IsOpenedBy}
 use Rattle.wh_program.proofs.WarehouseLemmas.{left, unopened, unread, unread_file}
 
 -- of accepted commands
-found_clean : (limits : Limits) (commands : List Accepted) (told : Told) (verdict : Result Verdict Fault) (session : Session) (s : State)
-    → IfOk told (λ a. a ≡ verdict_answer verdict) → IsCheckedOf limits commands verdict session s
-    → (after : Standing) × IsFoundClean limits commands told after × Stands after s
-found_clean limits commands told verdict session s tells is =
-    let l = left (λ told. told ≡ Ok Clean) commands commands limits verdict session s is in
+found_clean : (limits : Limits) (commands : List Accepted) (shown : Shown) (verdict : Result Verdict Fault) (session : Session) (s : State)
+    → IfOk shown (λ a. a ≡ verdict_answer verdict) → IsCheckedOf limits commands verdict session s
+    → (after : Standing) × IsFoundClean limits commands shown after × Stands after s
+found_clean limits commands shown verdict session s tells is =
+    let l = left (λ shown. shown ≡ Ok Clean) commands commands limits verdict session s is in
     (l.0, record { verdict = verdict; leaves = l.1; tells = tells }, l.2)
 
 -- ---- of rows that anybody wrote
@@ -60,10 +60,10 @@ covers stored One Two says = sym (says_the_first says.0 Two says.2)
 covers stored Two One says = tt
 covers stored Two Two says = refl
 
-module _ (stored : Stored) (told : Told) (opened : IsOpenedBy stored) where
+module _ (stored : Stored) (shown : Shown) (opened : IsOpenedBy stored) where
   judged : (verdict : Result Verdict Fault) (s : State)
-      → IfOk told (λ a. a ≡ verdict_answer verdict) → IsChecked (stored_in opened.session.format stored) verdict → (IsServed verdict → RestsOn stored s) → LeavesStored stored s
-      → (after : Standing) × IsVerdictOn stored told after × Stands after s
+      → IfOk shown (λ a. a ≡ verdict_answer verdict) → IsChecked (stored_in opened.session.format stored) verdict → (IsServed verdict → RestsOn stored s) → LeavesStored stored s
+      → (after : Standing) × IsVerdictOn stored shown after × Stands after s
   judged (Ok verdict) s tells due rests left = (Rests (Keeps stored), record { opened = opened; verdict = Ok verdict; due = due; leaves = refl; tells = tells }, rests tt)
   judged (Err (fault.Refused why)) s tells due rests left = (Rests (Keeps stored), record { opened = opened; verdict = Err (fault.Refused why); due = due; leaves = refl; tells = tells }, rests tt)
   judged (Err (fault.Damaged table)) s tells due rests left = (Rests (Keeps stored), record { opened = opened; verdict = Err (fault.Damaged table); due = due; leaves = refl; tells = tells }, rests tt)
@@ -72,7 +72,7 @@ module _ (stored : Stored) (told : Told) (opened : IsOpenedBy stored) where
       (LeftAt (Keeps stored) (Keeps stored), record { opened = opened; verdict = Err (fault.Store cause); due = due; leaves = refl; tells = tells }, record { each = λ trees may. inl (left.each trees may) })
   judged (Err fault.Reopen) s tells due rests left = (Rests (Keeps stored), record { opened = opened; verdict = Err fault.Reopen; due = due; leaves = refl; tells = tells }, rests tt)
 
-module _ (content : DatabaseContent) (told : Told) where
+module _ (content : DatabaseContent) (shown : Shown) where
   -- a file that was opened and checked
   pub checked : (verdict : Result Verdict Fault) (first last : Session) (s0 s1 s2 : State)
       → ((limits : Limits) (commands : List Accepted) → AreAdmitted limits commands → engine.Rests limits commands s0 → IsReady limits commands first s1)
@@ -84,16 +84,16 @@ module _ (content : DatabaseContent) (told : Told) where
       → ((stored : Stored) → RestsOn stored s1 → LeavesStored stored s2)
       → ((what : DatabaseContent) → IsAt what s0 → IsAt what s1)
       → ((what : DatabaseContent) → IsAt what s1 → (after : Standing) × LeavesIt what after × Stands after s2)
-      → IfOk told (λ a. a ≡ verdict_answer verdict)
-      → IsAt content s0 → (after : Standing) × Checks content told after × Stands after s2
-  checked verdict first last s0 s1 s2 opens sound missing found due rests left same looked tells at = elim content as (λ what. IsAt what s0 → (after : Standing) × Checks what told after × Stands after s2) [
+      → IfOk shown (λ a. a ≡ verdict_answer verdict)
+      → IsAt content s0 → (after : Standing) × Checks content shown after × Stands after s2
+  checked verdict first last s0 s1 s2 opens sound missing found due rests left same looked tells at = elim content as (λ what. IsAt what s0 → (after : Standing) × Checks what shown after × Stands after s2) [
     | Nothing ↦ λ at. absurd (missing at)
     | Holds limits commands ↦ λ at.
-        let it = found_clean limits commands told verdict last s2 tells (sound limits commands (opens limits commands at.0 at.1)) in
+        let it = found_clean limits commands shown verdict last s2 tells (sound limits commands (opens limits commands at.0 at.1)) in
         (it.0, inl it.1, it.2)
     | Keeps stored ↦ λ at.
         let here = found stored at in
-        let it = judged stored told (record { session = first; says = here.0 }) verdict s2 tells (due stored here.1 (covers stored stored.format first.format here.0.0)) (rests stored here.1) (left stored here.1) in
+        let it = judged stored shown (record { session = first; says = here.0 }) verdict s2 tells (due stored here.1 (covers stored stored.format first.format here.0.0)) (rests stored here.1) (left stored here.1) in
         (it.0, inl it.1, it.2)
     | Is db ↦ λ at. let it = looked (Is db) (same (Is db) at) in (it.0, inl it.1, it.2)
   ] at
@@ -104,11 +104,11 @@ module _ (content : DatabaseContent) (told : Told) where
       → (IsAtRest None s0 → (why ≡ opening.NotAWarehouse) × IsAt Nothing s1)
       → ((stored : Stored) → RestsOn stored s0 → UnopenedBy stored why × LeavesStored stored s1 × (SparesStore why → RestsOn stored s1))
       → ((what : DatabaseContent) → IsAt what s0 → LeavesEither what what s1 × (SparesStore why → IsAt what s1))
-      → IfOk told (λ a. a ≡ opening_answer why)
-      → IsAt content s0 → (after : Standing) × Checks content told after × Stands after s1
-  unchecked why s0 s1 refused missing bad same tells at = elim content as (λ what. IsAt what s0 → (after : Standing) × Checks what told after × Stands after s1) [
-    | Nothing ↦ λ at. unopened IsFoundClean LooksAt Nothing told why s0 s1 refused missing bad same tells at
-    | Holds limits commands ↦ λ at. unopened IsFoundClean LooksAt (Holds limits commands) told why s0 s1 refused missing bad same tells at
-    | Keeps stored ↦ λ at. let it = unread stored told why s1 tells (bad stored at) in (it.0, inr it.1, it.2)
-    | Is db ↦ λ at. let it = unread_file (Is db) told why s1 tells (same (Is db) at) in (it.0, inr it.1, it.2)
+      → IfOk shown (λ a. a ≡ opening_answer why)
+      → IsAt content s0 → (after : Standing) × Checks content shown after × Stands after s1
+  unchecked why s0 s1 refused missing bad same tells at = elim content as (λ what. IsAt what s0 → (after : Standing) × Checks what shown after × Stands after s1) [
+    | Nothing ↦ λ at. unopened IsFoundClean LooksAt Nothing shown why s0 s1 refused missing bad same tells at
+    | Holds limits commands ↦ λ at. unopened IsFoundClean LooksAt (Holds limits commands) shown why s0 s1 refused missing bad same tells at
+    | Keeps stored ↦ λ at. let it = unread stored shown why s1 tells (bad stored at) in (it.0, inr it.1, it.2)
+    | Is db ↦ λ at. let it = unread_file (Is db) shown why s1 tells (same (Is db) at) in (it.0, inr it.1, it.2)
   ] at

@@ -32,7 +32,7 @@ use Rattle.wh_program.specs.Reply.{sent_answer}
 use Rattle.wh_program.specs.Room.{longest_answer, longest_reply}
 use Rattle.wh_program.specs.Run.{GoesOut, IsCutOff, Prints, PrintsWhole}
 use Rattle.wh_program.specs.Standing.{DatabaseContent, Holds, Standing, Unknown, Rests, LeftAt, IsAt, Stands}
-use Rattle.wh_program.specs.Warehouse.{Told, printed, IsCommandOf, IsTrueOf, RepliesOver}
+use Rattle.wh_program.specs.Warehouse.{Shown, printed, IsCommandOf, IsTrueOf, RepliesOver}
 use Rattle.wh_program.specs.declared.lines.answer.Status.{Status as Ending}
 use Rattle.wh_program.specs.declared.lines.answer.Status.TheVariants as ending
 use Rattle.wh_program.proofs.RunLemmas.{cut-answer_after}
@@ -99,25 +99,25 @@ abbrev ending_where : Bool → Ending
 ending_where refused = if refused then ending.Refused else ending.Done
 
 -- a reply that isn't cut off and doesn't end a delivery is an answer, whose line went out
-told_answer : (id : List ℕ) (told : Ending) (reply : Result Reply Fault) (old new : Option (List ℕ)) → told ≢ ending.Failed → Prints old new (status_code told) (sent_answer id reply)
-    → (a : Result Reply Refusal) × (answer_or_stop reply ≡ Ok a) × Appends old new (answered_line id a) × (told ≡ ending_of a)
-told_answer id ending.Failed reply old new goes prints = absurd (goes refl)
-told_answer id ending.Done reply old new goes (inr (kept, cut)) = let at = cut.status in absurd (omega (arith, at))
-told_answer id ending.Done (Ok (Accepts receipt)) old new goes (inl whole) = (Ok (Accepts receipt), refl, whole.text, refl)
-told_answer id ending.Done (Ok (Already receipt)) old new goes (inl whole) = (Ok (Already receipt), refl, whole.text, refl)
-told_answer id ending.Done (Err (fault.Refused why)) old new goes (inl whole) = let at = whole.status in absurd (omega (arith, at))
-told_answer id ending.Done (Err (fault.Damaged table)) old new goes (inl whole) = let at = whole.status in absurd (omega (arith, at))
-told_answer id ending.Done (Err fault.Memory) old new goes (inl whole) = let at = whole.status in absurd (omega (arith, at))
-told_answer id ending.Done (Err (fault.Store cause)) old new goes (inl whole) = let at = whole.status in absurd (omega (arith, at))
-told_answer id ending.Done (Err fault.Reopen) old new goes (inl whole) = let at = whole.status in absurd (omega (arith, at))
-told_answer id ending.Refused reply old new goes (inr (kept, cut)) = let at = cut.status in absurd (omega (arith, at))
-told_answer id ending.Refused (Ok (Accepts receipt)) old new goes (inl whole) = let at = whole.status in absurd (omega (arith, at))
-told_answer id ending.Refused (Ok (Already receipt)) old new goes (inl whole) = let at = whole.status in absurd (omega (arith, at))
-told_answer id ending.Refused (Err (fault.Refused why)) old new goes (inl whole) = (Err why, refl, whole.text, refl)
-told_answer id ending.Refused (Err (fault.Damaged table)) old new goes (inl whole) = let at = whole.status in absurd (omega (arith, at))
-told_answer id ending.Refused (Err fault.Memory) old new goes (inl whole) = let at = whole.status in absurd (omega (arith, at))
-told_answer id ending.Refused (Err (fault.Store cause)) old new goes (inl whole) = let at = whole.status in absurd (omega (arith, at))
-told_answer id ending.Refused (Err fault.Reopen) old new goes (inl whole) = let at = whole.status in absurd (omega (arith, at))
+shown_answer : (id : List ℕ) (shown : Ending) (reply : Result Reply Fault) (old new : Option (List ℕ)) → shown ≢ ending.Failed → Prints old new (status_code shown) (sent_answer id reply)
+    → (a : Result Reply Refusal) × (answer_or_stop reply ≡ Ok a) × Appends old new (answered_line id a) × (shown ≡ ending_of a)
+shown_answer id ending.Failed reply old new goes prints = absurd (goes refl)
+shown_answer id ending.Done reply old new goes (inr (kept, cut)) = let at = cut.status in absurd (omega (arith, at))
+shown_answer id ending.Done (Ok (Accepts receipt)) old new goes (inl whole) = (Ok (Accepts receipt), refl, whole.text, refl)
+shown_answer id ending.Done (Ok (Already receipt)) old new goes (inl whole) = (Ok (Already receipt), refl, whole.text, refl)
+shown_answer id ending.Done (Err (fault.Refused why)) old new goes (inl whole) = let at = whole.status in absurd (omega (arith, at))
+shown_answer id ending.Done (Err (fault.Damaged table)) old new goes (inl whole) = let at = whole.status in absurd (omega (arith, at))
+shown_answer id ending.Done (Err fault.Memory) old new goes (inl whole) = let at = whole.status in absurd (omega (arith, at))
+shown_answer id ending.Done (Err (fault.Store cause)) old new goes (inl whole) = let at = whole.status in absurd (omega (arith, at))
+shown_answer id ending.Done (Err fault.Reopen) old new goes (inl whole) = let at = whole.status in absurd (omega (arith, at))
+shown_answer id ending.Refused reply old new goes (inr (kept, cut)) = let at = cut.status in absurd (omega (arith, at))
+shown_answer id ending.Refused (Ok (Accepts receipt)) old new goes (inl whole) = let at = whole.status in absurd (omega (arith, at))
+shown_answer id ending.Refused (Ok (Already receipt)) old new goes (inl whole) = let at = whole.status in absurd (omega (arith, at))
+shown_answer id ending.Refused (Err (fault.Refused why)) old new goes (inl whole) = (Err why, refl, whole.text, refl)
+shown_answer id ending.Refused (Err (fault.Damaged table)) old new goes (inl whole) = let at = whole.status in absurd (omega (arith, at))
+shown_answer id ending.Refused (Err fault.Memory) old new goes (inl whole) = let at = whole.status in absurd (omega (arith, at))
+shown_answer id ending.Refused (Err (fault.Store cause)) old new goes (inl whole) = let at = whole.status in absurd (omega (arith, at))
+shown_answer id ending.Refused (Err fault.Reopen) old new goes (inl whole) = let at = whole.status in absurd (omega (arith, at))
 
 line_of_answer : (id : List ℕ) (reply : Result Reply Fault) (a : Result Reply Refusal) → answer_or_stop reply ≡ Ok a → (sent_answer id reply).text ≡ answered_line id a
 line_of_answer id (Ok (Accepts receipt)) a is = let same : Ok (Accepts receipt) ≡ a = cc is in ap (answered_line id) same
@@ -141,21 +141,21 @@ failed_stop id (Err fault.Reopen) is = (fault.Reopen, refl, refl)
 -- ---- what is left
 
 -- what the engine's answers say of the store, as what stands
-delivered : (sent : List Command) (limits : Limits) (commands : List Accepted) (told : Told) (answers : List (Result Reply Refusal)) (stop : Option Fault) (session : Session) (s : State)
-    → printed told ≡ delivery_answer sent answers stop → EngineDelivered limits commands sent answers stop session s
-    → (after : Standing) × IsDelivered sent limits commands told after × Stands after s
-delivered sent limits commands told answers None session s tells (are, ready) =
+delivered : (sent : List Command) (limits : Limits) (commands : List Accepted) (shown : Shown) (answers : List (Result Reply Refusal)) (stop : Option Fault) (session : Session) (s : State)
+    → printed shown ≡ delivery_answer sent answers stop → EngineDelivered limits commands sent answers stop session s
+    → (after : Standing) × IsDelivered sent limits commands shown after × Stands after s
+delivered sent limits commands shown answers None session s tells (are, ready) =
     (Rests (Holds limits (accepted_after_all limits commands sent)), record { answers = answers; stop = None; leaves = (are, refl); tells = tells }, (ready.admitted, ready.rests))
-delivered sent limits commands told answers (Some (fault.Refused why)) session s tells none = absurd none
-delivered sent limits commands told answers (Some (fault.Damaged table)) session s tells none = absurd none
-delivered sent limits commands told answers (Some fault.Memory) session s tells (are, few, ready) =
+delivered sent limits commands shown answers (Some (fault.Refused why)) session s tells none = absurd none
+delivered sent limits commands shown answers (Some (fault.Damaged table)) session s tells none = absurd none
+delivered sent limits commands shown answers (Some fault.Memory) session s tells (are, few, ready) =
     (Rests (Holds limits (accepted_after_all limits commands (take (length answers) sent))), record { answers = answers; stop = Some fault.Memory; leaves = (are, few, refl); tells = tells }, (ready.admitted, ready.rests))
-delivered sent limits commands told answers (Some (fault.Store cause)) session s tells (are, few, stopped) = (
+delivered sent limits commands shown answers (Some (fault.Store cause)) session s tells (are, few, stopped) = (
   LeftAt (Holds limits (accepted_after_all limits commands (take (length answers) sent))) (Holds limits (accepted_after_all limits commands (take (suc (length answers)) sent))),
   record { answers = answers; stop = Some (fault.Store cause); leaves = (are, few, refl); tells = tells },
   record { each = stopped.left.each },
 )
-delivered sent limits commands told answers (Some fault.Reopen) session s tells none = absurd none
+delivered sent limits commands shown answers (Some fault.Reopen) session s tells none = absurd none
 
 -- ---- commands that are sent one after the other
 
@@ -211,12 +211,12 @@ over_next replied c reply s0 s1 s2 was before next = λ clean content at all.
     (one.0 kept.1, all_next (λ (p : Command × Result Reply Fault). IsTrueOf content p.0 p.1) replied (c, reply) here.1 one.1)
 
 -- so it is of a delivery
-abbrev pub IsOver : List Command → Told → State → State → Type 0
-IsOver sent told s0 s = HasCleanDisk s → (content : DatabaseContent) → IsAt content s0 → (after : Standing) × IsDeliveredOver sent content told after × Stands after s
+abbrev pub IsOver : List Command → Shown → State → State → Type 0
+IsOver sent shown s0 s = HasCleanDisk s → (content : DatabaseContent) → IsAt content s0 → (after : Standing) × IsDeliveredOver sent content shown after × Stands after s
 
-delivered_over : (sent behind : List Command) (replied : Replied) (told : Told) (s0 s : State) → sent ≡ map (λ (p : Command × Result Reply Fault). p.0) replied ++ behind → (printed told).text ≡ replied_lines replied
-    → AreOver replied s0 s → IsOver sent told s0 s
-delivered_over sent behind replied told s0 s first tells over = λ clean content at. elim (all_kept_or_not replied) [
+delivered_over : (sent behind : List Command) (replied : Replied) (shown : Shown) (s0 s : State) → sent ≡ map (λ (p : Command × Result Reply Fault). p.0) replied ++ behind → (printed shown).text ≡ replied_lines replied
+    → AreOver replied s0 s → IsOver sent shown s0 s
+delivered_over sent behind replied shown s0 s first tells over = λ clean content at. elim (all_kept_or_not replied) [
   | inl all ↦ (let so = over clean content at all in (Rests content, record { replied = replied; behind = behind; first = first; tells = tells; leaves = λ none. (refl, so.1) }, so.0))
   | inr never ↦ (Unknown, record { replied = replied; behind = behind; first = first; tells = tells; leaves = λ all. absurd (never all) }, tt)
 ]
@@ -237,7 +237,7 @@ pub record AreSent (sent : List Command) (first last : Session) (s0 s : State) (
 -- a delivery went out, whole or in part
 abbrev pub IsOut : List Command → Session → State → State → Option (List ℕ) → Option (List ℕ) → ℕ → Type 0
 IsOut sent first s0 s old new code =
-    (cut : Option ℕ) × (told : Told) × GoesOut cut old new code (printed told) × WhenReadyIn first s0 s (λ limits commands. (after : Standing) × Delivers cut sent limits commands told after × Stands after s) × IsOver sent told s0 s
+    (cut : Option ℕ) × (shown : Shown) × GoesOut cut old new code (printed shown) × WhenReadyIn first s0 s (λ limits commands. (after : Standing) × Delivers cut sent limits commands shown after × Stands after s) × IsOver sent shown s0 s
 
 pub none_sent : (first : Session) (s : State) (out : Option (List ℕ)) → AreSent [] first first s s out out ending.Done
 none_sent first s out = record {
@@ -263,8 +263,8 @@ all_out sent first last s0 s old new status are = (
   delivered_over sent [] are.replied (Ok (delivery_answer sent are.answers None)) s0 s (sym are.of ∙ sym (append-nil (map (λ (p : Command × Result Reply Fault). p.0) are.replied))) (append-nil (answered_lines sent are.answers) ∙ sym are.lines) are.over,
 )
 
-module _ (before : List Command) (c : Command) (first at last : Session) (s0 s1 s2 : State) (old mid new : Option (List ℕ)) (status told : Ending) (reply : Result Reply Fault)
-    (are : AreSent before first at s0 s1 old mid status) (prints : Prints mid new (status_code told) (sent_answer c.id reply)) (clean : HasCleanDisk s2 → HasCleanDisk s1)
+module _ (before : List Command) (c : Command) (first at last : Session) (s0 s1 s2 : State) (old mid new : Option (List ℕ)) (status shown : Ending) (reply : Result Reply Fault)
+    (are : AreSent before first at s0 s1 old mid status) (prints : Prints mid new (status_code shown) (sent_answer c.id reply)) (clean : HasCleanDisk s2 → HasCleanDisk s1)
     (answered : WhenReadyIn at s1 s2 (λ limits commands. IsAnswered limits commands c reply last s2)) (one : RepliesOver s1 s2 c reply) where
   -- what was replied up to it
   abbrev replied : Replied
@@ -301,18 +301,18 @@ module _ (before : List Command) (c : Command) (first at last : Session) (s0 s1 
         );
   }
 
-  pub next_done : told ≡ ending.Done → AreSent (before ++ c ∷ []) first last s0 s2 old new status
+  pub next_done : shown ≡ ending.Done → AreSent (before ++ c ∷ []) first last s0 s2 old new status
   next_done done =
-      let a = told_answer c.id told reply mid new (λ failed. cc) prints in
-      elim a.0 as (λ x. answer_or_stop reply ≡ Ok x → Appends mid new (answered_line c.id x) → told ≡ ending_of x → AreSent (before ++ c ∷ []) first last s0 s2 old new status) [
+      let a = shown_answer c.id shown reply mid new (λ failed. cc) prints in
+      elim a.0 as (λ x. answer_or_stop reply ≡ Ok x → Appends mid new (answered_line c.id x) → shown ≡ ending_of x → AreSent (before ++ c ∷ []) first last s0 s2 old new status) [
         | Ok r ↦ λ is line e. next_sent status (Ok r) is line (are.ends ∙ ap ending_where (sym (any_still are.answers r)))
         | Err why ↦ λ is line e. absurd cc
       ] a.1 a.2 a.3
 
-  pub next_refused : told ≡ ending.Refused → AreSent (before ++ c ∷ []) first last s0 s2 old new ending.Refused
+  pub next_refused : shown ≡ ending.Refused → AreSent (before ++ c ∷ []) first last s0 s2 old new ending.Refused
   next_refused refused =
-      let a = told_answer c.id told reply mid new (λ failed. cc) prints in
-      elim a.0 as (λ x. answer_or_stop reply ≡ Ok x → Appends mid new (answered_line c.id x) → told ≡ ending_of x → AreSent (before ++ c ∷ []) first last s0 s2 old new ending.Refused) [
+      let a = shown_answer c.id shown reply mid new (λ failed. cc) prints in
+      elim a.0 as (λ x. answer_or_stop reply ≡ Ok x → Appends mid new (answered_line c.id x) → shown ≡ ending_of x → AreSent (before ++ c ∷ []) first last s0 s2 old new ending.Refused) [
         | Ok r ↦ λ is line e. absurd cc
         | Err why ↦ λ is line e. next_sent ending.Refused (Err why) is line (ap ending_where (sym (any_now are.answers why)))
       ] a.1 a.2 a.3
@@ -325,7 +325,7 @@ module _ (before : List Command) (c : Command) (first at last : Session) (s0 s1 
     parts = sym (append_assoc before (c ∷ []) behind) ∙ ap (λ (cs : List Command). cs ++ behind) (sym of_those)
 
     -- the line of what stopped them is the last
-    stop_out : status_code told ≡ 3 → PrintsWhole mid new (status_code told) (sent_answer c.id reply) → IsOut sent first s0 s2 old new (status_code told)
+    stop_out : status_code shown ≡ 3 → PrintsWhole mid new (status_code shown) (sent_answer c.id reply) → IsOut sent first s0 s2 old new (status_code shown)
     stop_out failed whole =
         let stop = failed_stop c.id reply (sym failed ∙ whole.status) in
         let answers = are.answers in
@@ -348,17 +348,17 @@ module _ (before : List Command) (c : Command) (first at last : Session) (s0 s1 
         )
 
     -- the line of the reply was cut off
-    cut_out : (kept : ℕ) → IsCutOff kept mid new (status_code told) (sent_answer c.id reply) → IsOut sent first s0 s2 old new (status_code told)
+    cut_out : (kept : ℕ) → IsCutOff kept mid new (status_code shown) (sent_answer c.id reply) → IsOut sent first s0 s2 old new (status_code shown)
     cut_out kept cut =
         let lines = answered_lines before are.answers in
         let answer = answer_after lines (sent_answer c.id reply) in (
           Some (length lines + kept),
           Ok answer,
-          cut-answer_after old mid new (status_code told) kept lines (sent_answer c.id reply) are.went cut,
+          cut-answer_after old mid new (status_code shown) kept lines (sent_answer c.id reply) are.went cut,
           (λ after limits commands ready.
               let was = are.due (clean after) limits commands ready in
               let list = accepted_after_all limits commands before in
-              let ended = left (λ told. answer_to limits list c ≡ told) list (accepted_after limits list c) limits reply last s2 (answered after limits list was.1) in
+              let ended = left (λ shown. answer_to limits list c ≡ shown) list (accepted_after limits list c) limits reply last s2 (answered after limits list was.1) in
               let due : lines ≡ due_lines limits commands before = ap (answered_lines before) was.0 in (
                 ended.0,
                 record {
@@ -377,18 +377,18 @@ module _ (before : List Command) (c : Command) (first at last : Session) (s0 s1 
         )
 
     -- the delivery ended at it
-    pub ended_out : told ≡ ending.Failed → IsOut sent first s0 s2 old new (status_code told)
+    pub ended_out : shown ≡ ending.Failed → IsOut sent first s0 s2 old new (status_code shown)
     ended_out failed = elim prints [ inl whole ↦ stop_out (ap status_code failed) whole | inr cut ↦ cut_out cut.0 cut.1 ]
 
 -- ---- the manifest
 
 -- it is a bad one
-pub bad_listed : (holds : Files) (refuses : Refusals) (stands : Standing → Type 0) (cut : Option ℕ) (content : DatabaseContent) (file : List ℕ) (read : Result (List ManifestEntry) BadManifest) (bad : BadManifest) (told : Told)
-    → read ≡ Err bad → stands (Rests content) → IfOk told (λ a. a ≡ refused (manifest_line bad)) → AnswersRead holds refuses stands cut content file read told
-bad_listed holds refuses stands cut content file (Ok entries) bad told is same tells = absurd (cc)
-bad_listed holds refuses stands cut content file (Err why) bad told is same tells =
+pub bad_listed : (holds : Files) (refuses : Refusals) (stands : Standing → Type 0) (cut : Option ℕ) (content : DatabaseContent) (file : List ℕ) (read : Result (List ManifestEntry) BadManifest) (bad : BadManifest) (shown : Shown)
+    → read ≡ Err bad → stands (Rests content) → IfOk shown (λ a. a ≡ refused (manifest_line bad)) → AnswersRead holds refuses stands cut content file read shown
+bad_listed holds refuses stands cut content file (Ok entries) bad shown is same tells = absurd (cc)
+bad_listed holds refuses stands cut content file (Err why) bad shown is same tells =
     let e : why ≡ bad = cc in
-    record { same = same; tells = subst (λ (b : BadManifest). IfOk told (λ a. a ≡ refused (manifest_line b))) (sym e) tells }
+    record { same = same; tells = subst (λ (b : BadManifest). IfOk shown (λ a. a ≡ refused (manifest_line b))) (sym e) tells }
 
 -- memory ran out before anything was sent
 pub not_listed : (holds : Files) (refuses : Refusals) (stands : Standing → Type 0) (cut : Option ℕ) (content : DatabaseContent) (file : List ℕ) (read : Result (List ManifestEntry) BadManifest) (e : AllocError)

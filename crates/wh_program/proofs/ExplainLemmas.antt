@@ -12,13 +12,13 @@ use Rattle.wh_engine.specs.declared.fault.Fault.TheVariants as fault
 use Rattle.wh_engine.specs.declared.session.Session.{Session}
 
 -- a fault of that reading may take the place of the preview
-pub told_in_place : (A : Type 0) (limits : Limits) (commands : List Accepted) (kind : CommandKind) (bytes : List ℕ) (why : Fault) (session : Session) (s : State)
+pub answered_in_place : (A : Type 0) (limits : Limits) (commands : List Accepted) (kind : CommandKind) (bytes : List ℕ) (why : Fault) (session : Session) (s : State)
     → IsServing {A = A} limits commands (Err why) session s → IsPreviewed limits commands kind bytes (Err why) session s
-told_in_place A limits commands kind bytes (fault.Refused why) session s serving = let none = serving.0 in absurd (cc)
-told_in_place A limits commands kind bytes fault.Memory session s serving = serving
-told_in_place A limits commands kind bytes (fault.Store cause) session s serving = serving
-told_in_place A limits commands kind bytes (fault.Damaged table) session s serving = serving
-told_in_place A limits commands kind bytes fault.Reopen session s serving = serving
+answered_in_place A limits commands kind bytes (fault.Refused why) session s serving = let none = serving.0 in absurd (cc)
+answered_in_place A limits commands kind bytes fault.Memory session s serving = serving
+answered_in_place A limits commands kind bytes (fault.Store cause) session s serving = serving
+answered_in_place A limits commands kind bytes (fault.Damaged table) session s serving = serving
+answered_in_place A limits commands kind bytes fault.Reopen session s serving = serving
 
 -- what is said of a fault is said of the refusal that it is
 pub of_refusal : (limits : Limits) (commands : List Accepted) (kind : CommandKind) (bytes : List ℕ) (found : Fault) (why : Refusal) (session : Session) (s : State) → found ≡ fault.Refused why

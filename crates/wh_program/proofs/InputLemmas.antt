@@ -16,7 +16,7 @@ use Rattle.wh_policy.specs.declared.format.Format.{Format}
 use Rattle.wh_policy.specs.declared.format.Format.TheVariants.{One, Two}
 use Rattle.wh_program.specs.Answer.{answer_under, AnswersTrial}
 use Rattle.wh_program.specs.Inputs.{Files, up_to, batch_limit, policy_limit, manifest_limit, manifest_part}
-use Rattle.wh_program.specs.Warehouse.{Told}
+use Rattle.wh_program.specs.Warehouse.{Shown}
 use Rattle.wh_program.specs.Laws.{PoliciesAreReadSo, TrialsAreReadSo, CommandsAreReadSo}
 
 -- what counts of a manifest that is past the limit, and of one that isn't, by what was read of it
@@ -41,9 +41,9 @@ past_or_whole most bytes = elim (cases_lt most (length bytes)) [
 ]
 
 -- a trial of a batch under a policy, each as far as it is read
-pub tried_under : (holds : Files) (dim : Dim) (path policy_path text batch : List ℕ) (told : Told) → up_to policy_limit holds policy_path (Some text) → up_to batch_limit holds path (Some batch)
-    → IfOk told (λ a. a ≡ answer_under dim batch (read_policy text)) → IfOk told (AnswersTrial holds dim path (Some policy_path))
-tried_under holds dim path policy_path text batch told first second tells = IfOk-weaker told _ _ (λ a is. (Some text, Some batch, first, λ there. second, is)) tells
+pub tried_under : (holds : Files) (dim : Dim) (path policy_path text batch : List ℕ) (shown : Shown) → up_to policy_limit holds policy_path (Some text) → up_to batch_limit holds path (Some batch)
+    → IfOk shown (λ a. a ≡ answer_under dim batch (read_policy text)) → IfOk shown (AnswersTrial holds dim path (Some policy_path))
+tried_under holds dim path policy_path text batch shown first second tells = IfOk-weaker shown _ _ (λ a is. (Some text, Some batch, first, λ there. second, is)) tells
 
 -- ---- laws
 

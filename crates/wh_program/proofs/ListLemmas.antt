@@ -25,7 +25,7 @@ use Rattle.wh_program.specs.Readings.{asked_answer, asked_under, form_asked, que
 use Rattle.wh_program.specs.ReportLists.{answer_in, listed_answer}
 use Rattle.wh_program.specs.ReportsRead.{IsReadFor, AreReadFor}
 use Rattle.wh_program.specs.Standing.{Standing, Stands}
-use Rattle.wh_program.specs.Warehouse.{Told}
+use Rattle.wh_program.specs.Warehouse.{Shown}
 use Rattle.wh_words.specs.Task.{QueryWords}
 use Rattle.wh_program.proofs.ReadingLemmas.{left}
 
@@ -122,14 +122,14 @@ module _ {Q : Type 0} (answered : Q → List Accepted → Printed) (limits : Lim
   untold_by listed Tells i (Ok read) any within serves = record { read = Ok read; answered = i; within = tt; serves = serves; tells = any _ }
   untold_by listed Tells i (Err why) any within serves = record { read = Err why; answered = i; within = within_map listed i within; serves = serves; tells = any _ }
 
-  pub untold : (listed : List Q) (Tells : List Printed → Type 0) (i : ℕ) (answer : Printed) (told : Told) → ((answers : List Printed) → Tells answers) → i < length listed
-      → IsReadFor answer told limits commands session s → AreReadFor (map answered listed) Tells limits commands session s
-  untold listed Tells i answer told any within reads = untold_by listed Tells i reads.read any within reads.serves
+  pub untold : (listed : List Q) (Tells : List Printed → Type 0) (i : ℕ) (answer : Printed) (shown : Shown) → ((answers : List Printed) → Tells answers) → i < length listed
+      → IsReadFor answer shown limits commands session s → AreReadFor (map answered listed) Tells limits commands session s
+  untold listed Tells i answer shown any within reads = untold_by listed Tells i reads.read any within reads.serves
 
 -- what stands then, where just the answers are told
-pub list_stands : (limits : Limits) (commands : List Accepted) (session : Session) (s : State) (questions : Questions) (told : Told) (Tells : List Printed → Type 0) → AreReadFor questions Tells limits commands session s
-    → ((answers : List Printed) → Tells answers → IfOk told (λ a. a ≡ whole_answer answers)) → (after : Standing) × IsListed questions limits commands told after × Stands after s
-list_stands limits commands session s questions told Tells reads whole =
+pub list_stands : (limits : Limits) (commands : List Accepted) (session : Session) (s : State) (questions : Questions) (shown : Shown) (Tells : List Printed → Type 0) → AreReadFor questions Tells limits commands session s
+    → ((answers : List Printed) → Tells answers → IfOk shown (λ a. a ≡ whole_answer answers)) → (after : Standing) × IsListed questions limits commands shown after × Stands after s
+list_stands limits commands session s questions shown Tells reads whole =
     let l = left limits commands reads.read session s reads.serves in
     (l.0, record { read = reads.read; answered = reads.answered; within = reads.within; leaves = l.1; tells = whole _ reads.tells }, l.2)
 

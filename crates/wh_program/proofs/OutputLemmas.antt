@@ -11,6 +11,6 @@ left_by_failure (Err x) P h e = h
 
 -- a write puts out a beginning of its text, which may be all of it
 pub beginning_written : {T E : Type 0} (r : Result T E) (old new : Option (List ℕ)) (text : List ℕ) → OnOk r (Appends old new text)
-    → OnErr r ((kept : ℕ) × (kept < length text) × Appends old new (take kept text)) → (told : ℕ) × Appends old new (take told text)
+    → OnErr r ((kept : ℕ) × (kept < length text) × Appends old new (take kept text)) → (shown : ℕ) × Appends old new (take shown text)
 beginning_written (Ok x) old new text whole part = (length text, subst (Appends old new) (sym (take-length text)) whole)
 beginning_written (Err x) old new text whole part = (part.0, part.2)

@@ -48,7 +48,7 @@ use Rattle.wh_program.specs.ReportsRead.{IsReadFor}
 use Rattle.wh_program.specs.Run.{Prints}
 use Rattle.wh_program.specs.Standing.{DatabaseContent, Nothing, Holds, Keeps, Is, IsOfCommands, Standing, Rests, LeavesIt, IsAt, Stands}
 use Rattle.wh_words.specs.Task.{QueryWords, ReportWords}
-use Rattle.wh_program.specs.Warehouse.{Told, printed, LeavesUnopened, LeavesUnread, Shows}
+use Rattle.wh_program.specs.Warehouse.{Shown, printed, LeavesUnopened, LeavesUnread, Shows}
 use Rattle.wh_program.proofs.RunLemmas.{prints-answer_after, prints-cut}
 use Rattle.wh_program.proofs.WarehouseLemmas.{left as ended}
 
@@ -60,15 +60,15 @@ pub left : (limits : Limits) (commands : List Accepted) (read : Result (Unit {0}
 left limits commands read session s serving = ended IsOk commands commands limits read session s serving
 
 -- a warehouse that is opened, and what is done then and printed
-pub opened-printing : (does : Limits → List Accepted → Told → Standing → Type 0) (prints : Told → Type 0) (content : DatabaseContent) (first : Session) (s0 s1 s2 : State)
+pub opened-printing : (does : Limits → List Accepted → Shown → Standing → Type 0) (prints : Shown → Type 0) (content : DatabaseContent) (first : Session) (s0 s1 s2 : State)
     → ((limits : Limits) (commands : List Accepted) → AreAdmitted limits commands → engine.Rests limits commands s0 → IsReady limits commands first s1)
-    → ((limits : Limits) (commands : List Accepted) → IsReady limits commands first s1 → (after : Standing) × ((told : Told) × does limits commands told after × prints told) × Stands after s2)
+    → ((limits : Limits) (commands : List Accepted) → IsReady limits commands first s1 → (after : Standing) × ((shown : Shown) × does limits commands shown after × prints shown) × Stands after s2)
     → (IsAtRest None s0 → ⊥)
     → ((what : DatabaseContent) → IsAt what s0 → IsAt what s1)
     → ((what : DatabaseContent) → IsAt what s1 → (after : Standing) × LeavesIt what after × Stands after s2)
-    → ((limits : Limits) (commands : List Accepted) (told : Told) (after : Standing) → does limits commands told after → LeavesIt (Holds limits commands) after)
-    → IsAt content s0 → (after : Standing) × ((IsOfCommands content → (told : Told) × Shows does content told after × prints told) × LeavesIt content after) × Stands after s2
-opened-printing does prints content first s0 s1 s2 opens works missing same looked leaves at = elim content as (λ what. IsAt what s0 → (after : Standing) × ((IsOfCommands what → (told : Told) × Shows does what told after × prints told) × LeavesIt what after) × Stands after s2) [
+    → ((limits : Limits) (commands : List Accepted) (shown : Shown) (after : Standing) → does limits commands shown after → LeavesIt (Holds limits commands) after)
+    → IsAt content s0 → (after : Standing) × ((IsOfCommands content → (shown : Shown) × Shows does content shown after × prints shown) × LeavesIt content after) × Stands after s2
+opened-printing does prints content first s0 s1 s2 opens works missing same looked leaves at = elim content as (λ what. IsAt what s0 → (after : Standing) × ((IsOfCommands what → (shown : Shown) × Shows does what shown after × prints shown) × LeavesIt what after) × Stands after s2) [
   | Nothing ↦ λ at. absurd (missing at)
   | Holds limits commands ↦ λ at.
       let worked = works limits commands (opens limits commands at.0 at.1) in
@@ -87,8 +87,8 @@ read_left limits commands (Err (fault.Store cause)) after leaves = inr leaves
 read_left limits commands (Err (fault.Damaged table)) after leaves = absurd leaves
 read_left limits commands (Err fault.Reopen) after leaves = absurd leaves
 
-pub dumped_left : (table : Table) (limits : Limits) (commands : List Accepted) (told : Told) (after : Standing) → IsDumped table limits commands told after → LeavesIt (Holds limits commands) after
-dumped_left table limits commands told after is = read_left limits commands is.read after is.leaves
+pub dumped_left : (table : Table) (limits : Limits) (commands : List Accepted) (shown : Shown) (after : Standing) → IsDumped table limits commands shown after → LeavesIt (Holds limits commands) after
+dumped_left table limits commands shown after is = read_left limits commands is.read after is.leaves
 
 unopened_left : (limits : Limits) (commands : List Accepted) (why : OpenFault) (after : Standing) → LeavesUnopened limits commands why after → LeavesIt (Holds limits commands) after
 unopened_left limits commands opening.NotAWarehouse after none = absurd none
@@ -107,16 +107,16 @@ unread_left content opening.Memory after is = inl is
 unread_left content (opening.Store cause) after is = inr is
 
 -- What only looks leaves what stands, where it leaves accepted commands.
-module _ (does : Limits → List Accepted → Told → Standing → Type 0) where
-  pub shown_left : (content : DatabaseContent) (told : Told) (after : Standing) → ((limits : Limits) (commands : List Accepted) → does limits commands told after → LeavesIt (Holds limits commands) after)
-      → Shows does content told after → LeavesIt content after
-  shown_left Nothing told after leaves shows = inl shows.0
-  shown_left (Holds limits commands) told after leaves (inl did) = leaves limits commands did
-  shown_left (Holds limits commands) told after leaves (inr not) = unopened_left limits commands not.why after not.leaves
-  shown_left (Keeps stored) told after leaves (inl did) = did.1
-  shown_left (Keeps stored) told after leaves (inr not) = unread_left (Keeps stored) not.why after not.leaves
-  shown_left (Is db) told after leaves (inl did) = did
-  shown_left (Is db) told after leaves (inr not) = unread_left (Is db) not.why after not.leaves
+module _ (does : Limits → List Accepted → Shown → Standing → Type 0) where
+  pub shown_left : (content : DatabaseContent) (shown : Shown) (after : Standing) → ((limits : Limits) (commands : List Accepted) → does limits commands shown after → LeavesIt (Holds limits commands) after)
+      → Shows does content shown after → LeavesIt content after
+  shown_left Nothing shown after leaves shows = inl shows.0
+  shown_left (Holds limits commands) shown after leaves (inl did) = leaves limits commands did
+  shown_left (Holds limits commands) shown after leaves (inr not) = unopened_left limits commands not.why after not.leaves
+  shown_left (Keeps stored) shown after leaves (inl did) = did.1
+  shown_left (Keeps stored) shown after leaves (inr not) = unread_left (Keeps stored) not.why after not.leaves
+  shown_left (Is db) shown after leaves (inl did) = did
+  shown_left (Is db) shown after leaves (inr not) = unread_left (Is db) not.why after not.leaves
 
 -- ---- what is asked
 
@@ -155,55 +155,55 @@ given-reads policy words mode from to request is =
 
 -- ---- report
 
-module _ (words : ReportWords) (limits : Limits) (commands : List Accepted) (told : Told) (session : Session) (s : State) where
+module _ (words : ReportWords) (limits : Limits) (commands : List Accepted) (shown : Shown) (session : Session) (s : State) where
   -- the warehouse was read for the words of a report
   abbrev IsAsked : Type 0
-  IsAsked = IsReadFor (asked_answer commands (asked_under (current_policy commands) words)) told limits commands session s
+  IsAsked = IsReadFor (asked_answer commands (asked_under (current_policy commands) words)) shown limits commands session s
 
   -- it was worked out
   pub reported : (request : Asked) (worked : Result (Vec ℕ Global) ReportFault) → asked_under (current_policy commands) words ≡ Ok request → Reports commands request worked
-      → IfOk told (λ a. a ≡ report_answer worked) → IsServing limits commands (of_warehouse worked) session s → IsAsked
-  reported request (Ok text) is reports tells serving = record { read = Ok tt; serves = serving; tells = IfOk-weaker told _ _ (λ a e. e ∙ ap done reports ∙ sym (ap (asked_answer commands) is)) tells }
+      → IfOk shown (λ a. a ≡ report_answer worked) → IsServing limits commands (of_warehouse worked) session s → IsAsked
+  reported request (Ok text) is reports tells serving = record { read = Ok tt; serves = serving; tells = IfOk-weaker shown _ _ (λ a e. e ∙ ap done reports ∙ sym (ap (asked_answer commands) is)) tells }
   reported request (Err report.Write) is none tells serving = absurd none
   reported request (Err (report.Warehouse why)) is wanting tells serving = record { read = Err why; serves = serving; tells = tells }
   reported request (Err (report.Unwritten why)) is none tells serving = absurd none
   reported request (Err (report.Inconsistent table)) is none tells serving = absurd none
 
   -- or it can't be asked for
-  pub not_asked : (why : RequestFault) → asked_under (current_policy commands) words ≡ Err why → IfOk told (λ a. a ≡ refused (request_line why)) → IsReady limits commands session s → IsAsked
-  not_asked why is tells ready = record { read = Ok tt; serves = (refl, ready); tells = IfOk-weaker told _ _ (λ a e. e ∙ sym (ap (asked_answer commands) is)) tells }
+  pub not_asked : (why : RequestFault) → asked_under (current_policy commands) words ≡ Err why → IfOk shown (λ a. a ≡ refused (request_line why)) → IsReady limits commands session s → IsAsked
+  not_asked why is tells ready = record { read = Ok tt; serves = (refl, ready); tells = IfOk-weaker shown _ _ (λ a e. e ∙ sym (ap (asked_answer commands) is)) tells }
 
 -- what stands once the warehouse was read for an answer
-pub answer_stands : (answer : List Accepted → Printed) (limits : Limits) (commands : List Accepted) (told : Told) (session : Session) (s : State) → IsReadFor (answer commands) told limits commands session s
-    → (after : Standing) × IsAnsweredBy answer limits commands told after × Stands after s
-answer_stands answer limits commands told session s asks = let l = left limits commands asks.read session s asks.serves in (l.0, record { read = asks.read; leaves = l.1; tells = asks.tells }, l.2)
+pub answer_stands : (answer : List Accepted → Printed) (limits : Limits) (commands : List Accepted) (shown : Shown) (session : Session) (s : State) → IsReadFor (answer commands) shown limits commands session s
+    → (after : Standing) × IsAnsweredBy answer limits commands shown after × Stands after s
+answer_stands answer limits commands shown session s asks = let l = left limits commands asks.read session s asks.serves in (l.0, record { read = asks.read; leaves = l.1; tells = asks.tells }, l.2)
 
 -- ---- query
 
-module _ (words : QueryWords) (limits : Limits) (commands : List Accepted) (told : Told) (session : Session) (s : State) where
+module _ (words : QueryWords) (limits : Limits) (commands : List Accepted) (shown : Shown) (session : Session) (s : State) where
   abbrev IsQueried : Type 0
-  IsQueried = IsReadFor (query_answered words commands) told limits commands session s
+  IsQueried = IsReadFor (query_answered words commands) shown limits commands session s
 
   -- it was worked out
   pub queried : (q : QueryAsked) (worked : Result (Vec ℕ Global) ReportFault) → queried_under (current_policy commands) words ≡ Ok q → Answers commands (in_form (form_asked words.as_table) q) worked
-      → IfOk told (λ a. a ≡ report_answer worked) → IsServing limits commands (of_warehouse worked) session s → IsQueried
-  queried q (Ok text) is answers tells serving = record { read = Ok tt; serves = serving; tells = IfOk-weaker told _ _ (λ a e. e ∙ ap done answers ∙ sym (ap (queried_answer commands (form_asked words.as_table)) is)) tells }
+      → IfOk shown (λ a. a ≡ report_answer worked) → IsServing limits commands (of_warehouse worked) session s → IsQueried
+  queried q (Ok text) is answers tells serving = record { read = Ok tt; serves = serving; tells = IfOk-weaker shown _ _ (λ a e. e ∙ ap done answers ∙ sym (ap (queried_answer commands (form_asked words.as_table)) is)) tells }
   queried q (Err report.Write) is none tells serving = absurd none
   queried q (Err (report.Warehouse why)) is wanting tells serving = record { read = Err why; serves = serving; tells = tells }
   queried q (Err (report.Unwritten why)) is none tells serving = absurd none
   queried q (Err (report.Inconsistent table)) is none tells serving = absurd none
 
   -- or it can't be asked for
-  pub no_query : (why : RequestFault) → queried_under (current_policy commands) words ≡ Err why → IfOk told (λ a. a ≡ refused (request_line why)) → IsReady limits commands session s → IsQueried
-  no_query why is tells ready = record { read = Ok tt; serves = (refl, ready); tells = IfOk-weaker told _ _ (λ a e. e ∙ sym (ap (queried_answer commands (form_asked words.as_table)) is)) tells }
+  pub no_query : (why : RequestFault) → queried_under (current_policy commands) words ≡ Err why → IfOk shown (λ a. a ≡ refused (request_line why)) → IsReady limits commands session s → IsQueried
+  no_query why is tells ready = record { read = Ok tt; serves = (refl, ready); tells = IfOk-weaker shown _ _ (λ a e. e ∙ sym (ap (queried_answer commands (form_asked words.as_table)) is)) tells }
 
 -- ---- records
 
 -- the batch was made, or it wasn't
-pub carried_read : (dim : Dim) (from : ℕ) (limits : Limits) (commands : List Accepted) (told : Told) (session : Session) (s : State) (found : Result Part Fault) → IfOk found (IsPartAt (current_policy commands) commands dim from)
-    → IfOk told (λ a. a ≡ records_answer found) → IsServing limits commands found session s → IsReadFor (records_answered dim from commands) told limits commands session s
-carried_read dim from limits commands told session s (Ok part) is tells serving = record { read = Ok tt; serves = serving; tells = IfOk-weaker told _ _ (λ a e. e ∙ ap done is.text) tells }
-carried_read dim from limits commands told session s (Err why) is tells serving = record { read = Err why; serves = serving; tells = tells }
+pub carried_read : (dim : Dim) (from : ℕ) (limits : Limits) (commands : List Accepted) (shown : Shown) (session : Session) (s : State) (found : Result Part Fault) → IfOk found (IsPartAt (current_policy commands) commands dim from)
+    → IfOk shown (λ a. a ≡ records_answer found) → IsServing limits commands found session s → IsReadFor (records_answered dim from commands) shown limits commands session s
+carried_read dim from limits commands shown session s (Ok part) is tells serving = record { read = Ok tt; serves = serving; tells = IfOk-weaker shown _ _ (λ a e. e ∙ ap done is.text) tells }
+carried_read dim from limits commands shown session s (Err why) is tells serving = record { read = Err why; serves = serving; tells = tells }
 
 -- no memory for what is asked
 pub not_read : (answer : Printed) (e : AllocError) (limits : Limits) (commands : List Accepted) (session : Session) (s : State) → IsReady limits commands session s → IsReadFor answer (Err e) limits commands session s
@@ -213,26 +213,26 @@ not_read answer e limits commands session s ready = record { read = Ok tt; serve
 
 -- the first lines went out, and then the fault was said
 lines-out : (lines out : List (List ℕ)) (why : Fault) (old mid new : Option (List ℕ)) (code : ℕ) → AreOut out lines old mid → SaysStop (report.Warehouse why) mid new code
-    → (told : Told) × TellsLines lines (Err why) told × Prints old new code (printed told)
+    → (shown : Shown) × TellsLines lines (Err why) shown × Prints old new code (printed shown)
 lines-out lines out why old mid new code are (line, tells, prints) = (
   Ok (answer_after (concat out) (printed line)),
-  record { out = out; left = are.left; whole = are.whole; line = line; tells = tells; told_is = refl },
+  record { out = out; left = are.left; whole = are.whole; line = line; tells = tells; shown_is = refl },
   prints-answer_after old mid new code (concat out) (printed line) are.went prints,
 )
 
 -- the writer failed within lines that were to go out before the line of a fault
 cut-before : (lines : List (List ℕ)) (why : Fault) (old mid new : Option (List ℕ)) (code byte : ℕ) (rest : List ℕ) → IsOutBut (byte ∷ rest) old mid (concat lines) → SaysWriteFailed mid new code
-    → (told : Told) × TellsLines lines (Err why) told × Prints old new code (printed told)
+    → (shown : Shown) × TellsLines lines (Err why) shown × Prints old new code (printed shown)
 cut-before lines why old mid new code byte rest but says =
     let line = fault_answer why in (
       Ok (answer_after (concat lines) line),
-      record { out = lines; left = []; whole = sym (append-nil lines); line = Ok line; tells = refl; told_is = refl },
+      record { out = lines; left = []; whole = sym (append-nil lines); line = Ok line; tells = refl; shown_is = refl },
       prints-cut old mid new code (answer_after (concat lines) line) but.part byte (rest ++ line.text) (ap (λ (t : List ℕ). t ++ line.text) but.whole ∙ append_assoc but.part (byte ∷ rest) line.text) but.went says,
     )
 
 -- what is answered where a dump was stopped, by what went out of it and what was said after that
 pub stopped-dump : (lines : List (List ℕ)) (why : ReportFault) (old mid new : Option (List ℕ)) (code : ℕ) → IsOfDump why → IsOutInLines (Err why) old mid lines → SaysStop why mid new code
-    → (told : Told) × TellsLines lines (of_warehouse {A = Unit {0}} (Err why)) told × Prints old new code (printed told)
+    → (shown : Shown) × TellsLines lines (of_warehouse {A = Unit {0}} (Err why)) shown × Prints old new code (printed shown)
 stopped-dump lines report.Write old mid new code of (byte, rest, but) says = (Ok (done (concat lines)), refl, prints-cut old mid new code (done (concat lines)) but.part byte rest but.whole but.went says)
 stopped-dump lines (report.Unwritten why) old mid new code of (byte, rest, but) says = cut-before lines why old mid new code byte rest but says
 stopped-dump lines (report.Warehouse fault.Memory) old mid new code of (out, are) says = lines-out lines out fault.Memory old mid new code are says

@@ -12,7 +12,7 @@ use Rattle.wh_program.specs.Run.{GoesOut, IsCutOff, Prints}
 use Rattle.wh_words.specs.Task.{Task, Trial, Over, Init, Load, Migrate, Upgrade, Deliver, Plan, Explain, ExplainInit, Records, Query, Report, Reports, Queries, Dump, Views, Check, Status, Session}
 use Rattle.wh_program.specs.Standing.{Rests}
 use Rattle.wh_program.specs.Tasks.{Stores, Runs, SparesOthers, WhenShut}
-use Rattle.wh_program.specs.Warehouse.{Told, PrintsAnswer, printed}
+use Rattle.wh_program.specs.Warehouse.{Shown, PrintsAnswer, printed}
 use Rattle.wh_program.specs.declared.lines.answer.Status.{Status as Ending}
 use Rattle.wh_program.specs.declared.lines.answer.Status.TheVariants.{Done, Refused, Failed}
 
@@ -28,17 +28,17 @@ parted old new code a (inl whole) = (None, whole)
 parted old new code a (inr (kept, cut)) = (Some kept, cut)
 
 -- one that is the answer wherever it is cut off
-pub printed_so : (answers : Option ℕ → Told → Type 0) (old new : Option (List ℕ)) (code : ℕ) (told : Told) → ((cut : Option ℕ) → answers cut told) → Prints old new code (printed told) → PrintsAnswer answers old new code
-printed_so answers old new code told are prints = let out = parted old new code (printed told) prints in (out.0, told, are out.0, out.1)
+pub printed_so : (answers : Option ℕ → Shown → Type 0) (old new : Option (List ℕ)) (code : ℕ) (shown : Shown) → ((cut : Option ℕ) → answers cut shown) → Prints old new code (printed shown) → PrintsAnswer answers old new code
+printed_so answers old new code shown are prints = let out = parted old new code (printed shown) prints in (out.0, shown, are out.0, out.1)
 
 -- an answer that is cut off after a part of it
 pub cut-answer_after : (old mid new : Option (List ℕ)) (code kept : ℕ) (part : List ℕ) (a : Printed) → Appends old mid part → IsCutOff kept mid new code a → IsCutOff (length part + kept) old new code (answer_after part a)
 cut-answer_after old mid new code kept part a went cut =
-    let line = take cut.told write_line in
+    let line = take cut.shown write_line in
     let same : part ++ (take kept a.text ++ line) ≡ take (length part + kept) (part ++ a.text) ++ line =
     sym (append_assoc part (take kept a.text) line) ∙ ap (λ (t : List ℕ). t ++ line) (sym (take-append-add part a.text kept)) in
     record {
-      told = cut.told;
+      shown = cut.shown;
       cut = omega (arith, length-append part a.text, cut.cut);
       status = cut.status;
       text = subst (Appends old new) same (Appends-trans old mid new part (take kept a.text ++ line) went cut.text);
@@ -51,14 +51,14 @@ prints-answer_after old mid new code part a went (inr (kept, cut)) = inr (length
 
 -- the writer failed after a part of an answer that wants at least a byte
 pub prints-cut : (old mid new : Option (List ℕ)) (code : ℕ) (a : Printed) (part : List ℕ) (byte : ℕ) (rest : List ℕ) → a.text ≡ part ++ byte ∷ rest → Appends old mid part → SaysWriteFailed mid new code → Prints old new code a
-prints-cut old mid new code a part byte rest whole went (failed, (told, said)) =
-    let line = take told write_line in
+prints-cut old mid new code a part byte rest whole went (failed, (shown, said)) =
+    let line = take shown write_line in
     let same : part ++ line ≡ take (length part) a.text ++ line = ap (λ (t : List ℕ). t ++ line) (sym (ap (take (length part)) whole ∙ take-append_seam part (byte ∷ rest))) in
     let longer : length a.text ≡ length part + length (byte ∷ rest) = ap length whole ∙ length-append part (byte ∷ rest) in
     inr (
       length part,
       record {
-        told = told;
+        shown = shown;
         cut = omega arith;
         status = failed;
         text = subst (Appends old new) same (Appends-trans old mid new part line went said);
@@ -75,7 +75,7 @@ shut_all shut None says all = tt
 shut_all shut (Some name) says all = λ is. all name
 
 -- memory ran out before anything was done
-pub not_run : (holds : Files) (refuses : Refusals) (before : Stores) (same : Type 0) (prints : Told → Type 0) (goes_out : Option ℕ → Told → Type 0) (e : AllocError) (task : Task)
+pub not_run : (holds : Files) (refuses : Refusals) (before : Stores) (same : Type 0) (prints : Shown → Type 0) (goes_out : Option ℕ → Shown → Type 0) (e : AllocError) (task : Task)
     → same → prints (Err e) → (cut : Option ℕ) × goes_out cut (Err e) → Runs holds refuses before before same prints goes_out task
 not_run holds refuses before same prints goes_out e (Trial dim path policy) is p went = (is, (Err e, tt, p))
 not_run holds refuses before same prints goes_out e (Over file (Init policy)) is p went = ((λ content stood. (Err e, inr (record { same = stood; tells = tt }), p)), (Err e, inr (is, tt), p))

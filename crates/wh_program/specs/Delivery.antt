@@ -24,7 +24,7 @@ use Rattle.wh_program.specs.Inputs.{Files, Refusals, as_input, as_manifest}
 use Rattle.wh_program.specs.Readings.{answer_after}
 use Rattle.wh_program.specs.Reply.{reply_answer, refused_line, fault_answer, sent_answer}
 use Rattle.wh_program.specs.Standing.{DatabaseContent, Holds, Standing, Rests, LeftAt}
-use Rattle.wh_program.specs.Warehouse.{Told, printed, Opens, IsTrueOf, LeavesReplied, IsCommandOf, AnswersWork, IsNoFile, LacksFile}
+use Rattle.wh_program.specs.Warehouse.{Shown, printed, Opens, IsTrueOf, LeavesReplied, IsCommandOf, AnswersWork, IsNoFile, LacksFile}
 use Rattle.wh_program.specs.declared.lines.answer.Status.{Status}
 use Rattle.wh_program.specs.declared.lines.answer.Status.TheVariants.{Done, Refused, Failed}
 
@@ -73,11 +73,11 @@ LeavesDelivered limits commands sent answers (Some (fault.Store cause)) after =
 LeavesDelivered limits commands sent answers (Some why) after = ⊥
 
 -- the engine answered the commands, from the first on, and just that is told
-pub record IsDelivered (sent : List Command) (limits : Limits) (commands : List Accepted) (told : Told) (after : Standing) : Type 0 where
+pub record IsDelivered (sent : List Command) (limits : Limits) (commands : List Accepted) (shown : Shown) (after : Standing) : Type 0 where
   pub answers : List (Result Reply Refusal)
   pub stop : Option Fault
   pub leaves : LeavesDelivered limits commands sent answers stop after
-  pub tells : printed told ≡ delivery_answer sent answers stop
+  pub tells : printed shown ≡ delivery_answer sent answers stop
 
 -- the lines of the answers that are due to commands
 abbrev pub due_lines : Limits → List Accepted → List Command → List ℕ
@@ -85,7 +85,7 @@ due_lines limits commands sent = answered_lines sent (answers_to limits commands
 
 -- The writer failed at the line of the reply to a command, after so many bytes: the commands before it have their answers, whose lines went out whole, it has its reply, and those behind it
 -- were not begun.
-pub record IsBrokenOff (kept : ℕ) (sent : List Command) (limits : Limits) (commands : List Accepted) (told : Told) (after : Standing) : Type 0 where
+pub record IsBrokenOff (kept : ℕ) (sent : List Command) (limits : Limits) (commands : List Accepted) (shown : Shown) (after : Standing) : Type 0 where
   pub before : List Command
   pub c : Command
   pub behind : List Command
@@ -93,10 +93,10 @@ pub record IsBrokenOff (kept : ℕ) (sent : List Command) (limits : Limits) (com
   pub reply : Result Reply Fault
   pub leaves : LeavesReplied limits (accepted_after_all limits commands before) c reply after
   pub whole : length (due_lines limits commands before) ≤ kept
-  pub tells : told ≡ Ok (answer_after (due_lines limits commands before) (sent_answer c.id reply))
+  pub tells : shown ≡ Ok (answer_after (due_lines limits commands before) (sent_answer c.id reply))
 
 -- a delivery of these commands, by how much of what is told went out
-abbrev pub Delivers : (cut : Option ℕ) → List Command → Limits → List Accepted → Told → Standing → Type 0
+abbrev pub Delivers : (cut : Option ℕ) → List Command → Limits → List Accepted → Shown → Standing → Type 0
 Delivers None = IsDelivered
 Delivers (Some kept) = IsBrokenOff kept
 
@@ -117,15 +117,15 @@ abbrev pub AreTrueOf : DatabaseContent → Replied → Type 0
 AreTrueOf content replied = AllByRecursion (λ (p : Command × Result Reply Fault). IsTrueOf content p.0 p.1) replied
 
 -- The engine replied to the first commands over what anybody wrote, and just that is told. Where nothing was kept, all is as it was, and each reply is true of it.
-pub record IsDeliveredOver (sent : List Command) (content : DatabaseContent) (told : Told) (after : Standing) : Type 0 where
+pub record IsDeliveredOver (sent : List Command) (content : DatabaseContent) (shown : Shown) (after : Standing) : Type 0 where
   pub replied : Replied
   pub behind : List Command
   pub first : sent ≡ map (λ (p : Command × Result Reply Fault). p.0) replied ++ behind
-  pub tells : (printed told).text ≡ replied_lines replied
+  pub tells : (printed shown).text ≡ replied_lines replied
   pub leaves : KeepNothing replied → (after ≡ Rests content) × AreTrueOf content replied
 
 -- What opens what stands and delivers to it.
-abbrev pub DeliversTo : (cut : Option ℕ) → List Command → DatabaseContent → Told → Standing → Type 0
+abbrev pub DeliversTo : (cut : Option ℕ) → List Command → DatabaseContent → Shown → Standing → Type 0
 DeliversTo cut sent = Opens (Delivers cut sent) (IsDeliveredOver sent)
 
 -- ---- the manifest and its inputs
@@ -147,30 +147,30 @@ LacksInput holds entries (errors.Fault path) = IsFirstMissing holds entries path
 -- ---- the word
 
 -- nothing was sent, and the answer says why, or memory ran out before; nothing changed
-pub record IsNotSent (stands : Standing → Type 0) (content : DatabaseContent) (told : Told) (Tells : Printed → Type 0) : Type 0 where
+pub record IsNotSent (stands : Standing → Type 0) (content : DatabaseContent) (shown : Shown) (Tells : Printed → Type 0) : Type 0 where
   pub same : stands (Rests content)
-  pub tells : IfOk told Tells
+  pub tells : IfOk shown Tells
 
 -- these commands were sent to the warehouse in a file, or the host refuses its name
-abbrev pub AnswersSent : Refusals → (Standing → Type 0) → (cut : Option ℕ) → DatabaseContent → (file : List ℕ) → List Command → Told → Type 0
-AnswersSent refuses stands cut content file sent told = AnswersWork refuses stands (DeliversTo cut sent) content file told
+abbrev pub AnswersSent : Refusals → (Standing → Type 0) → (cut : Option ℕ) → DatabaseContent → (file : List ℕ) → List Command → Shown → Type 0
+AnswersSent refuses stands cut content file sent shown = AnswersWork refuses stands (DeliversTo cut sent) content file shown
 
 -- all commands of these entries were, or an input isn't there
-abbrev pub AnswersListed : Files → Refusals → (Standing → Type 0) → (cut : Option ℕ) → DatabaseContent → (file : List ℕ) → List ManifestEntry → Told → Type 0
-AnswersListed holds refuses stands cut content file entries told =
-    ((sent : List Command) × AreCommandsOf holds entries sent × AnswersSent refuses stands cut content file sent told)
-    ⊎ IsNotSent stands content told (λ a. (path : List ℕ) × IsFirstMissing holds entries path × (a ≡ failed (no_file_line path)))
+abbrev pub AnswersListed : Files → Refusals → (Standing → Type 0) → (cut : Option ℕ) → DatabaseContent → (file : List ℕ) → List ManifestEntry → Shown → Type 0
+AnswersListed holds refuses stands cut content file entries shown =
+    ((sent : List Command) × AreCommandsOf holds entries sent × AnswersSent refuses stands cut content file sent shown)
+    ⊎ IsNotSent stands content shown (λ a. (path : List ℕ) × IsFirstMissing holds entries path × (a ≡ failed (no_file_line path)))
 
 -- those of a manifest that was read, or it is a bad one
-abbrev pub AnswersRead : Files → Refusals → (Standing → Type 0) → (cut : Option ℕ) → DatabaseContent → (file : List ℕ) → Result (List ManifestEntry) BadManifest → Told → Type 0
-AnswersRead holds refuses stands cut content file (Ok entries) told = AnswersListed holds refuses stands cut content file entries told
-AnswersRead holds refuses stands cut content file (Err bad) told = IsNotSent stands content told (λ a. a ≡ refused (manifest_line bad))
+abbrev pub AnswersRead : Files → Refusals → (Standing → Type 0) → (cut : Option ℕ) → DatabaseContent → (file : List ℕ) → Result (List ManifestEntry) BadManifest → Shown → Type 0
+AnswersRead holds refuses stands cut content file (Ok entries) shown = AnswersListed holds refuses stands cut content file entries shown
+AnswersRead holds refuses stands cut content file (Err bad) shown = IsNotSent stands content shown (λ a. a ≡ refused (manifest_line bad))
 
 -- A delivery of the commands that the manifest in a file lists, as far as it counts. It is read first, then its inputs in order, and then the warehouse is opened.
-abbrev pub AnswersDelivery : Files → Refusals → (Standing → Type 0) → (cut : Option ℕ) → DatabaseContent → (file manifest : List ℕ) → Told → Type 0
-AnswersDelivery holds refuses stands cut content file manifest told =
-    ((bytes : List ℕ) × as_manifest holds manifest (Some bytes) × AnswersRead holds refuses stands cut content file (manifest_of bytes) told)
-    ⊎ IsNotSent stands content told (λ a. holds manifest None × (a ≡ failed (no_file_line manifest)))
+abbrev pub AnswersDelivery : Files → Refusals → (Standing → Type 0) → (cut : Option ℕ) → DatabaseContent → (file manifest : List ℕ) → Shown → Type 0
+AnswersDelivery holds refuses stands cut content file manifest shown =
+    ((bytes : List ℕ) × as_manifest holds manifest (Some bytes) × AnswersRead holds refuses stands cut content file (manifest_of bytes) shown)
+    ⊎ IsNotSent stands content shown (λ a. holds manifest None × (a ≡ failed (no_file_line manifest)))
 
 -- ---- what is answered before the warehouse is opened
 

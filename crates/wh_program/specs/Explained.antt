@@ -27,7 +27,7 @@ use Rattle.wh_words.specs.WrongWord.{line}
 use Rattle.wh_program.specs.Inputs.{Files, Refusals, as_input, policy_limit, up_to}
 use Rattle.wh_program.specs.Reply.{fault_answer}
 use Rattle.wh_program.specs.Standing.{DatabaseContent, Holds, Rests, Standing, left_standing}
-use Rattle.wh_program.specs.Warehouse.{Told, Shows, AnswersWith, AnswersWork, LacksFile}
+use Rattle.wh_program.specs.Warehouse.{Shown, Shows, AnswersWith, AnswersWork, LacksFile}
 
 -- the answer has the status of this one, and its text comes first
 pub record Begins (first : Printed) (answer : Printed) : Type 0 where
@@ -49,13 +49,13 @@ abbrev pub LeavesPreviewed : Limits → List Accepted → CommandKind → List �
 LeavesPreviewed limits commands kind bytes preview after = Outcome (IsPreviewOf limits commands kind bytes) commands commands preview (λ left. after ≡ left_standing limits left)
 
 -- the line comes first that the input would be answered
-pub record IsExplained (kind : CommandKind) (bytes : List ℕ) (limits : Limits) (commands : List Accepted) (told : Told) (after : Standing) : Type 0 where
+pub record IsExplained (kind : CommandKind) (bytes : List ℕ) (limits : Limits) (commands : List Accepted) (shown : Shown) (after : Standing) : Type 0 where
   pub preview : Result Preview Fault
   pub leaves : LeavesPreviewed limits commands kind bytes preview after
-  pub tells : IfOk told (Begins (preview_answer preview))
+  pub tells : IfOk shown (Begins (preview_answer preview))
 
 -- what explains these bytes as the input of a command of this kind
-abbrev pub Explains : CommandKind → (bytes : List ℕ) → DatabaseContent → Told → Standing → Type 0
+abbrev pub Explains : CommandKind → (bytes : List ℕ) → DatabaseContent → Shown → Standing → Type 0
 Explains kind bytes = Shows (IsExplained kind bytes)
 
 -- ---- what a kind takes
@@ -78,9 +78,9 @@ first_of_kind Migration policy format = []
 first_of_kind Upgrade policy format = []
 
 -- it comes first under the policy in force, and nothing changes
-pub record IsDescribed (kind : CommandKind) (limits : Limits) (commands : List Accepted) (told : Told) (after : Standing) : Type 0 where
+pub record IsDescribed (kind : CommandKind) (limits : Limits) (commands : List Accepted) (shown : Shown) (after : Standing) : Type 0 where
   pub same : after ≡ Rests (Holds limits commands)
-  pub tells : IfOk told (Begins (done (first_of_kind kind (current_policy commands) (format_of commands))))
+  pub tells : IfOk shown (Begins (done (first_of_kind kind (current_policy commands) (format_of commands))))
 
 -- ---- a policy, without a warehouse
 
@@ -106,9 +106,9 @@ IsPolicyExplained holds (Some path) a = (file : Option (List ℕ)) × up_to poli
 -- ---- the word
 
 -- the input in a file is explained, or else what the kind takes
-abbrev pub AnswersExplanation : Files → Refusals → (Standing → Type 0) → DatabaseContent → (file : List ℕ) → CommandKind → (path : Option (List ℕ)) → Told → Type 0
-AnswersExplanation holds refuses stands content file kind None told = AnswersWork refuses stands (Shows (IsDescribed kind)) content file told
-AnswersExplanation holds refuses stands content file kind (Some path) told = AnswersWith (as_input kind holds) refuses stands (Explains kind) content file path told
+abbrev pub AnswersExplanation : Files → Refusals → (Standing → Type 0) → DatabaseContent → (file : List ℕ) → CommandKind → (path : Option (List ℕ)) → Shown → Type 0
+AnswersExplanation holds refuses stands content file kind None shown = AnswersWork refuses stands (Shows (IsDescribed kind)) content file shown
+AnswersExplanation holds refuses stands content file kind (Some path) shown = AnswersWith (as_input kind holds) refuses stands (Explains kind) content file path shown
 
 -- the input in a file isn't there
 abbrev pub LacksInputAsked : Files → CommandKind → (path : Option (List ℕ)) → Printed → Type 0

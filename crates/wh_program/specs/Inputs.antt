@@ -24,7 +24,7 @@ batch_limit = 1_000_000
 abbrev pub policy_limit : ℕ
 policy_limit = 65_536
 
--- those of the input of a command; an upgrade has none to read
+-- the most bytes that the input of a command of this kind may have; an upgrade has no input
 abbrev pub input_limit : CommandKind → Option ℕ
 input_limit (Batch kind) = Some batch_limit
 input_limit Migration = Some policy_limit

@@ -11,7 +11,7 @@ use Rattle.wh_program.specs.Inputs.{Files, Refusals, as_manifest}
 use Rattle.wh_program.specs.Readings.{LeavesRead}
 use Rattle.wh_program.specs.Reply.{fault_answer}
 use Rattle.wh_program.specs.Standing.{DatabaseContent, Standing}
-use Rattle.wh_program.specs.Warehouse.{Told, Shows, AnswersWork, LacksFile}
+use Rattle.wh_program.specs.Warehouse.{Shown, Shows, AnswersWork, LacksFile}
 use Rattle.wh_program.specs.declared.lines.answer.Status.{Status}
 use Rattle.wh_program.specs.declared.lines.answer.Status.TheVariants.{Done, Refused, Failed}
 
@@ -49,28 +49,28 @@ whole_answer answers = record { status = status_code (status_of answers); text =
 -- ---- what is left
 
 -- The warehouse was read for the questions, for all of them or up to a fault, and just their answers are printed; nothing changes.
-pub record IsListed (questions : Questions) (limits : Limits) (commands : List Accepted) (told : Told) (after : Standing) : Type 0 where
+pub record IsListed (questions : Questions) (limits : Limits) (commands : List Accepted) (shown : Shown) (after : Standing) : Type 0 where
   pub read : Result (Unit {0}) Fault
   pub answered : ℕ
   pub within : IfErr read (λ fault. answered < length questions)
   pub leaves : LeavesRead limits commands read after
-  pub tells : IfOk told (λ a. a ≡ whole_answer (answers_until commands questions answered read))
+  pub tells : IfOk shown (λ a. a ≡ whole_answer (answers_until commands questions answered read))
 
 -- ---- the word
 
 module _ {A : Type 0} (read : List ℕ → Result (List A) BadManifest) where
   -- the questions of a list that was read, each with its answer, or it is a bad one
-  abbrev AnswersRead : (A → List Accepted → Printed) → Refusals → (Standing → Type 0) → DatabaseContent → (file : List ℕ) → Result (List A) BadManifest → Told → Type 0
-  AnswersRead answer refuses stands content file (Ok listed) told = AnswersWork refuses stands (Shows (IsListed (map answer listed))) content file told
-  AnswersRead answer refuses stands content file (Err bad) told = IsNotSent stands content told (λ a. a ≡ refused (manifest_line bad))
+  abbrev AnswersRead : (A → List Accepted → Printed) → Refusals → (Standing → Type 0) → DatabaseContent → (file : List ℕ) → Result (List A) BadManifest → Shown → Type 0
+  AnswersRead answer refuses stands content file (Ok listed) shown = AnswersWork refuses stands (Shows (IsListed (map answer listed))) content file shown
+  AnswersRead answer refuses stands content file (Err bad) shown = IsNotSent stands content shown (λ a. a ≡ refused (manifest_line bad))
 
   -- What the list in a file asks for, as far as it counts, which is as far as a manifest does. It is read first, and then the warehouse is opened.
-  abbrev pub AnswersList : (A → List Accepted → Printed) → Files → Refusals → (Standing → Type 0) → DatabaseContent → (file list : List ℕ) → Told → Type 0
-  AnswersList answer holds refuses stands content file list told =
-      ((bytes : List ℕ) × as_manifest holds list (Some bytes) × AnswersRead answer refuses stands content file (read bytes) told)
-      ⊎ IsNotSent stands content told (λ a. holds list None × (a ≡ failed (no_file_line list)))
+  abbrev pub AnswersList : (A → List Accepted → Printed) → Files → Refusals → (Standing → Type 0) → DatabaseContent → (file list : List ℕ) → Shown → Type 0
+  AnswersList answer holds refuses stands content file list shown =
+      ((bytes : List ℕ) × as_manifest holds list (Some bytes) × AnswersRead answer refuses stands content file (read bytes) shown)
+      ⊎ IsNotSent stands content shown (λ a. holds list None × (a ≡ failed (no_file_line list)))
 
-  -- the list is a bad one
+  -- the list can't be read, and the answer says why
   abbrev IsBad : Result (List A) BadManifest → Printed → Type 0
   IsBad (Ok listed) a = ⊥
   IsBad (Err bad) a = a ≡ refused (manifest_line bad)

@@ -33,7 +33,7 @@ use Rattle.wh_program.specs.Reply.{fault_answer, request_line, report_fault_answ
 use Rattle.wh_program.specs.Run.{Prints}
 use Rattle.wh_program.specs.Standing.{DatabaseContent, Standing, left_standing}
 use Rattle.wh_words.specs.Task.{QueryWords, ReportWords}
-use Rattle.wh_program.specs.Warehouse.{Told, printed, Shows, AnswersWork}
+use Rattle.wh_program.specs.Warehouse.{Shown, printed, Shows, AnswersWork}
 
 -- What a call that only reads leaves of a warehouse with these commands: nothing changes.
 abbrev pub LeavesRead : Limits → List Accepted → Result (Unit {0}) Fault → Standing → Type 0
@@ -56,20 +56,20 @@ read_answer (Ok read) answer = answer
 read_answer (Err fault) answer = fault_answer fault
 
 -- The warehouse was read for an answer by its accepted commands, and that or the fault is given.
-pub record IsAnsweredBy (answer : List Accepted → Printed) (limits : Limits) (commands : List Accepted) (told : Told) (after : Standing) : Type 0 where
+pub record IsAnsweredBy (answer : List Accepted → Printed) (limits : Limits) (commands : List Accepted) (shown : Shown) (after : Standing) : Type 0 where
   pub read : Result (Unit {0}) Fault
   pub leaves : LeavesRead limits commands read after
-  pub tells : IfOk told (λ a. a ≡ read_answer read (answer commands))
+  pub tells : IfOk shown (λ a. a ≡ read_answer read (answer commands))
 
 -- the answer to the words of a report
 abbrev pub report_answered : ReportWords → List Accepted → Printed
 report_answered words commands = asked_answer commands (asked_under (current_policy commands) words)
 
-abbrev pub IsReported : ReportWords → Limits → List Accepted → Told → Standing → Type 0
+abbrev pub IsReported : ReportWords → Limits → List Accepted → Shown → Standing → Type 0
 IsReported words = IsAnsweredBy (report_answered words)
 
-abbrev pub AnswersReport : Refusals → (Standing → Type 0) → DatabaseContent → (file : List ℕ) → ReportWords → Told → Type 0
-AnswersReport refuses stands content file words told = AnswersWork refuses stands (Shows (IsReported words)) content file told
+abbrev pub AnswersReport : Refusals → (Standing → Type 0) → DatabaseContent → (file : List ℕ) → ReportWords → Shown → Type 0
+AnswersReport refuses stands content file words shown = AnswersWork refuses stands (Shows (IsReported words)) content file shown
 
 -- ---- query
 
@@ -90,8 +90,8 @@ queried_answer commands form (Err fault) = refused (request_line fault)
 abbrev pub query_answered : QueryWords → List Accepted → Printed
 query_answered words commands = queried_answer commands (form_asked words.as_table) (queried_under (current_policy commands) words)
 
-abbrev pub AnswersQuery : Refusals → (Standing → Type 0) → DatabaseContent → (file : List ℕ) → QueryWords → Told → Type 0
-AnswersQuery refuses stands content file words told = AnswersWork refuses stands (Shows (IsAnsweredBy (query_answered words))) content file told
+abbrev pub AnswersQuery : Refusals → (Standing → Type 0) → DatabaseContent → (file : List ℕ) → QueryWords → Shown → Type 0
+AnswersQuery refuses stands content file words shown = AnswersWork refuses stands (Shows (IsAnsweredBy (query_answered words))) content file shown
 
 -- ---- records
 
@@ -99,8 +99,8 @@ AnswersQuery refuses stands content file words told = AnswersWork refuses stands
 abbrev pub records_answered : Dim → ℕ → List Accepted → Printed
 records_answered dim from commands = done (records_text (policy_attributes (current_policy commands) dim) (part_at (current_policy commands) commands dim from))
 
-abbrev pub AnswersRecords : Refusals → (Standing → Type 0) → DatabaseContent → (file : List ℕ) → Dim → ℕ → Told → Type 0
-AnswersRecords refuses stands content file dim from told = AnswersWork refuses stands (Shows (IsAnsweredBy (records_answered dim from))) content file told
+abbrev pub AnswersRecords : Refusals → (Standing → Type 0) → DatabaseContent → (file : List ℕ) → Dim → ℕ → Shown → Type 0
+AnswersRecords refuses stands content file dim from shown = AnswersWork refuses stands (Shows (IsAnsweredBy (records_answered dim from))) content file shown
 
 -- ---- dump
 
@@ -109,37 +109,37 @@ abbrev pub answer_after : List ℕ → Printed → Printed
 answer_after part answer = record { status = answer.status; text = part ++ answer.text }
 
 -- the first lines, each whole, and then the line of the fault, or of the lack of memory for that
-pub record IsCutShort (lines : List (List ℕ)) (fault : Fault) (told : Told) : Type 0 where
+pub record IsCutShort (lines : List (List ℕ)) (fault : Fault) (shown : Shown) : Type 0 where
   pub out : List (List ℕ)
   pub left : List (List ℕ)
   pub whole : lines ≡ out ++ left
-  pub line : Told
+  pub line : Shown
   pub tells : IfOk line (λ a. a ≡ fault_answer fault)
-  pub told_is : told ≡ Ok (answer_after (concat out) (printed line))
+  pub shown_is : shown ≡ Ok (answer_after (concat out) (printed line))
 
 -- all lines, where the table was read
-abbrev pub TellsLines : List (List ℕ) → Result (Unit {0}) Fault → Told → Type 0
-TellsLines lines (Ok read) told = told ≡ Ok (done (concat lines))
-TellsLines lines (Err fault) told = IsCutShort lines fault told
+abbrev pub TellsLines : List (List ℕ) → Result (Unit {0}) Fault → Shown → Type 0
+TellsLines lines (Ok read) shown = shown ≡ Ok (done (concat lines))
+TellsLines lines (Err fault) shown = IsCutShort lines fault shown
 
 -- the lines are those of the table of the accepted commands
-pub record IsDumped (table : Table) (limits : Limits) (commands : List Accepted) (told : Told) (after : Standing) : Type 0 where
+pub record IsDumped (table : Table) (limits : Limits) (commands : List Accepted) (shown : Shown) (after : Standing) : Type 0 where
   pub tables : Tables
   pub are : AreOf limits commands tables
   pub read : Result (Unit {0}) Fault
   pub leaves : LeavesRead limits commands read after
-  pub tells : TellsLines (lines_of_table table tables) read told
+  pub tells : TellsLines (lines_of_table table tables) read shown
 
-abbrev pub AnswersDump : Refusals → (Standing → Type 0) → DatabaseContent → (file : List ℕ) → Table → Told → Type 0
-AnswersDump refuses stands content file table told = AnswersWork refuses stands (Shows (IsDumped table)) content file told
+abbrev pub AnswersDump : Refusals → (Standing → Type 0) → DatabaseContent → (file : List ℕ) → Table → Shown → Type 0
+AnswersDump refuses stands content file table shown = AnswersWork refuses stands (Shows (IsDumped table)) content file shown
 
 -- the writer failed, which is said as far as it could still be written
 abbrev pub SaysWriteFailed : Option (List ℕ) → Option (List ℕ) → ℕ → Type 0
-SaysWriteFailed old new code = (code ≡ 3) × ((told : ℕ) × Appends old new (take told write_line))
+SaysWriteFailed old new code = (code ≡ 3) × ((shown : ℕ) × Appends old new (take shown write_line))
 
 -- what ended a dump is said after what went out of it: that the writer failed, whatever else did, or the line of the fault
 abbrev pub SaysStop : ReportFault → Option (List ℕ) → Option (List ℕ) → ℕ → Type 0
 SaysStop report.Write old new code = SaysWriteFailed old new code
 SaysStop (report.Unwritten why) old new code = SaysWriteFailed old new code
-SaysStop (report.Warehouse why) old new code = (line : Told) × IfOk line (λ a. a ≡ fault_answer why) × Prints old new code (printed line)
-SaysStop (report.Inconsistent table) old new code = (line : Told) × IfOk line (λ a. a ≡ report_fault_answer (report.Inconsistent table)) × Prints old new code (printed line)
+SaysStop (report.Warehouse why) old new code = (line : Shown) × IfOk line (λ a. a ≡ fault_answer why) × Prints old new code (printed line)
+SaysStop (report.Inconsistent table) old new code = (line : Shown) × IfOk line (λ a. a ≡ report_fault_answer (report.Inconsistent table)) × Prints old new code (printed line)

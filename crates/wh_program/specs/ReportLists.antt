@@ -12,7 +12,7 @@ use Rattle.wh_program.specs.Lists.{AnswersList, Lacks}
 use Rattle.wh_program.specs.Readings.{report_answered}
 use Rattle.wh_program.specs.Standing.{DatabaseContent, Standing}
 use Rattle.wh_words.specs.Task.{ReportWords}
-use Rattle.wh_program.specs.Warehouse.{Told}
+use Rattle.wh_program.specs.Warehouse.{Shown}
 
 -- the words of a report of a list, with the mode that one of them names
 abbrev pub words_in : ListedReport → Mode → ReportWords
@@ -28,7 +28,7 @@ abbrev pub listed_answer : ListedReport → List Accepted → Printed
 listed_answer listed commands = answer_in listed (mode_of_word listed.mode) commands
 
 -- the reports that the list in a file asks for
-abbrev pub AnswersReports : Files → Refusals → (Standing → Type 0) → DatabaseContent → (file list : List ℕ) → Told → Type 0
+abbrev pub AnswersReports : Files → Refusals → (Standing → Type 0) → DatabaseContent → (file list : List ℕ) → Shown → Type 0
 AnswersReports = AnswersList reports_of listed_answer
 
 -- the list isn't there, or is a bad one

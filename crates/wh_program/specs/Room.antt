@@ -4,7 +4,7 @@ use Rattle.std.specs.declared.alloc.Global.{Global}
 use Rattle.std.specs.declared.vec.Vec.{Vec}
 use Rattle.wh_admission.specs.declared.command.Command.{Command}
 use Rattle.wh_program.specs.Answer.{Printed}
-use Rattle.wh_program.specs.Warehouse.{Told}
+use Rattle.wh_program.specs.Warehouse.{Shown}
 
 -- the most bytes of a line, beside an id
 abbrev pub longest_line : ℕ
@@ -20,5 +20,5 @@ longest_reply [] = 0
 longest_reply (c ∷ sent) = max (longest_answer c.id) (longest_reply sent)
 
 -- an answer of at most so many bytes was made in this room, or there was no room for it
-abbrev pub TellsIn : ℕ → Vec ℕ Global → Told → Printed → Type 0
-TellsIn most room told answer = IfOk told (λ a. a ≡ answer) × OnErr told (vec_capacity room < most)
+abbrev pub TellsIn : ℕ → Vec ℕ Global → Shown → Printed → Type 0
+TellsIn most room shown answer = IfOk shown (λ a. a ≡ answer) × OnErr shown (vec_capacity room < most)

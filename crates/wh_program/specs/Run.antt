@@ -16,10 +16,10 @@ pub record PrintsWhole (old new : Option (List ℕ)) (code : ℕ) (answer : Prin
 
 -- the writer failed within the answer: so many bytes of it went out, and then a beginning of the line that says so
 pub record IsCutOff (kept : ℕ) (old new : Option (List ℕ)) (code : ℕ) (answer : Printed) : Type 0 where
-  pub told : ℕ
+  pub shown : ℕ
   pub cut : kept < length answer.text
   pub status : code ≡ 3
-  pub text : Appends old new (take kept answer.text ++ take told write_line)
+  pub text : Appends old new (take kept answer.text ++ take shown write_line)
 
 -- what went out, and the status, are those of the answer
 abbrev pub Prints : Option (List ℕ) → Option (List ℕ) → ℕ → Printed → Type 0

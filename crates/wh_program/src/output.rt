@@ -19,7 +19,7 @@ const USAGE: u8 = 4;
 /// The writer failed: a line says so, as far as it can still be written.
 pub fn write_failed<W: Write>(out: &mut W) -> Status
     ensures status { result ≡ Failed }
-    ensures told { (told : ℕ) × Appends (W.contents out.old) (W.contents out.new) (take told write_line) }
+    ensures shown { (shown : ℕ) × Appends (W.contents out.old) (W.contents out.new) (take shown write_line) }
 {
     let _ = write_whole(out, WRITE_LINE);
     Status::Failed

@@ -27,9 +27,9 @@ use wh_words::{Request, parse};
 /// Answers a request.
 fn run_request<H: Host, W: Write>(alloc: Global, request: Request, host: &mut H, out: &mut W) -> u8
     ensures runs { (task : TaskAsked) → asked_in request.entry ≡ Some (Ok task)
-        → Runs (H.holds host.old) (H.refuses host.old) (H.stores host.old) (H.stores host.new) (host.new ≡ host.old) (λ told. Prints (W.contents out.old) (W.contents out.new) result (printed told)) (λ cut told. GoesOut cut (W.contents out.old) (W.contents out.new) result (printed told)) task }
+        → Runs (H.holds host.old) (H.refuses host.old) (H.stores host.old) (H.stores host.new) (host.new ≡ host.old) (λ shown. Prints (W.contents out.old) (W.contents out.new) result (printed shown)) (λ cut shown. GoesOut cut (W.contents out.old) (W.contents out.new) result (printed shown)) task }
     ensures others { (task : TaskAsked) → asked_in request.entry ≡ Some (Ok task) → SparesOthers (H.stores host.old) (H.stores host.new) (warehouse_of task) }
-    ensures shut { (task : TaskAsked) → asked_in request.entry ≡ Some (Ok task) → RunsShut (H.shut host.old) (H.holds host.old) (host.new ≡ host.old) (λ told. Prints (W.contents out.old) (W.contents out.new) result (printed told)) task }
+    ensures shut { (task : TaskAsked) → asked_in request.entry ≡ Some (Ok task) → RunsShut (H.shut host.old) (H.holds host.old) (host.new ≡ host.old) (λ shown. Prints (W.contents out.old) (W.contents out.new) result (printed shown)) task }
     ensures right_words { (task : TaskAsked) → asked_in request.entry ≡ Some (Ok task) → result ≢ 4 }
     ensures wrong_words { (line : List ℕ) → asked_in request.entry ≡ Some (Err line) → (host.new ≡ host.old) × Prints (W.contents out.old) (W.contents out.new) result (wrong_words line) }
     ensures declined { (faults : Kinds) → IsDeclined faults request.entry → (host.new ≡ host.old) × ((answer : Printed) × Declines faults answer × Prints (W.contents out.old) (W.contents out.new) result answer) }
@@ -45,7 +45,7 @@ fn run_request<H: Host, W: Write>(alloc: Global, request: Request, host: &mut H,
 pub fn run<S: AsStr, H: Host, W: Write>(alloc: Global, words: &[S], host: &mut H, out: &mut W) -> u8
     // What each command prints, with its status, and what it leaves under the name of a warehouse.
     ensures runs { (line : CommandLine) (task : TaskAsked) → Says (map S.text words.now) line → task_of line ≡ Ok task
-        → Runs (H.holds host.old) (H.refuses host.old) (H.stores host.old) (H.stores host.new) (host.new ≡ host.old) (λ told. Prints (W.contents out.old) (W.contents out.new) result (printed told)) (λ cut told. GoesOut cut (W.contents out.old) (W.contents out.new) result (printed told)) task }
+        → Runs (H.holds host.old) (H.refuses host.old) (H.stores host.old) (H.stores host.new) (host.new ≡ host.old) (λ shown. Prints (W.contents out.old) (W.contents out.new) result (printed shown)) (λ cut shown. GoesOut cut (W.contents out.old) (W.contents out.new) result (printed shown)) task }
     // Its words are right, and no run of it ends as wrong words do.
     ensures right_words { (line : CommandLine) (task : TaskAsked) → Says (map S.text words.now) line → task_of line ≡ Ok task → result ≢ 4 }
     // Where one of its words is none of those that are listed, the line that says so is printed, and the host is as it was.
@@ -53,11 +53,11 @@ pub fn run<S: AsStr, H: Host, W: Write>(alloc: Global, words: &[S], host: &mut H
         × (Prints (W.contents out.old) (W.contents out.new) result (wrong_words wrong) ⊎ Prints (W.contents out.old) (W.contents out.new) result out_of_memory) }
     // Any words in which clap reads a command are run as that command.
     ensures reads { (task : TaskAsked) → asked_by (map S.text words.now) ≡ Some task
-        → Runs (H.holds host.old) (H.refuses host.old) (H.stores host.old) (H.stores host.new) (host.new ≡ host.old) (λ told. Prints (W.contents out.old) (W.contents out.new) result (printed told)) (λ cut told. GoesOut cut (W.contents out.old) (W.contents out.new) result (printed told)) task × (result ≢ 4) }
+        → Runs (H.holds host.old) (H.refuses host.old) (H.stores host.old) (H.stores host.new) (host.new ≡ host.old) (λ shown. Prints (W.contents out.old) (W.contents out.new) result (printed shown)) (λ cut shown. GoesOut cut (W.contents out.old) (W.contents out.new) result (printed shown)) task × (result ≢ 4) }
     // They leave what stands under other names as it was.
     ensures others { (task : TaskAsked) → asked_by (map S.text words.now) ≡ Some task → SparesOthers (H.stores host.old) (H.stores host.new) (warehouse_of task) }
     // Where the host can't open FILE, its line is the answer, or what is answered before it is opened, and the host is as it was.
-    ensures shut { (task : TaskAsked) → asked_by (map S.text words.now) ≡ Some task → RunsShut (H.shut host.old) (H.holds host.old) (host.new ≡ host.old) (λ told. Prints (W.contents out.old) (W.contents out.new) result (printed told)) task }
+    ensures shut { (task : TaskAsked) → asked_by (map S.text words.now) ≡ Some task → RunsShut (H.shut host.old) (H.holds host.old) (host.new ≡ host.old) (λ shown. Prints (W.contents out.old) (W.contents out.new) result (printed shown)) task }
     // All other words leave the host as it was: the answer is help, or the version, where they ask for it, and else what is wrong with them.
     ensures declines { asked_by (map S.text words.now) ≡ None → (host.new ≡ host.old)
         × (((answer : Printed) × Declines (faults_in (map S.text words.now)) answer × Prints (W.contents out.old) (W.contents out.new) result answer)

@@ -51,9 +51,9 @@ fn run_over<H: Host, W: Write>(
     host: &mut H,
     out: &mut W,
 ) -> Status
-    ensures runs { Runs (H.holds host.old) (H.refuses host.old) (H.stores host.old) (H.stores host.new) (host.new ≡ host.old) (λ told. Prints (W.contents out.old) (W.contents out.new) (status_code result) (printed told)) (λ cut told. GoesOut cut (W.contents out.old) (W.contents out.new) (status_code result) (printed told)) (Over file.now (work_in work.entry)) }
+    ensures runs { Runs (H.holds host.old) (H.refuses host.old) (H.stores host.old) (H.stores host.new) (host.new ≡ host.old) (λ shown. Prints (W.contents out.old) (W.contents out.new) (status_code result) (printed shown)) (λ cut shown. GoesOut cut (W.contents out.old) (W.contents out.new) (status_code result) (printed shown)) (Over file.now (work_in work.entry)) }
     ensures others { SparesOthers (H.stores host.old) (H.stores host.new) (Some file.now) }
-    ensures shut { RunsShut (H.shut host.old) (H.holds host.old) (host.new ≡ host.old) (λ told. Prints (W.contents out.old) (W.contents out.new) (status_code result) (printed told)) (Over file.now (work_in work.entry)) }
+    ensures shut { RunsShut (H.shut host.old) (H.holds host.old) (host.new ≡ host.old) (λ shown. Prints (W.contents out.old) (W.contents out.new) (status_code result) (printed shown)) (Over file.now (work_in work.entry)) }
 {
     match work {
         Work::Init { policy } => print_answer(out, init(alloc, file, policy, host)),
@@ -92,9 +92,9 @@ pub(crate) fn run_task<H: Host, W: Write>(
     host: &mut H,
     out: &mut W,
 ) -> Status
-    ensures runs { Runs (H.holds host.old) (H.refuses host.old) (H.stores host.old) (H.stores host.new) (host.new ≡ host.old) (λ told. Prints (W.contents out.old) (W.contents out.new) (status_code result) (printed told)) (λ cut told. GoesOut cut (W.contents out.old) (W.contents out.new) (status_code result) (printed told)) (task_in task.entry) }
+    ensures runs { Runs (H.holds host.old) (H.refuses host.old) (H.stores host.old) (H.stores host.new) (host.new ≡ host.old) (λ shown. Prints (W.contents out.old) (W.contents out.new) (status_code result) (printed shown)) (λ cut shown. GoesOut cut (W.contents out.old) (W.contents out.new) (status_code result) (printed shown)) (task_in task.entry) }
     ensures others { SparesOthers (H.stores host.old) (H.stores host.new) (warehouse_of (task_in task.entry)) }
-    ensures shut { RunsShut (H.shut host.old) (H.holds host.old) (host.new ≡ host.old) (λ told. Prints (W.contents out.old) (W.contents out.new) (status_code result) (printed told)) (task_in task.entry) }
+    ensures shut { RunsShut (H.shut host.old) (H.holds host.old) (host.new ≡ host.old) (λ shown. Prints (W.contents out.old) (W.contents out.new) (status_code result) (printed shown)) (task_in task.entry) }
 {
     match task {
         Task::Trial { dim, path, policy } => {

@@ -160,17 +160,17 @@ fn push_members(answer: &mut String, records: &DimensionRecords) -> Result<(), A
     if records.as_slice().is_empty() {
         return answer.push_str("no record");
     }
-    for told in records.as_slice() {
-        push_member(answer, told)?;
+    for incoming in records.as_slice() {
+        push_member(answer, incoming)?;
     }
     Ok(())
 }
 
-fn push_member(answer: &mut String, told: &DimensionRecord) -> Result<(), AllocError> {
-    answer.push_str(told.natural.as_str())?;
-    push_next(answer, told.day.key() as i128)?;
+fn push_member(answer: &mut String, incoming: &DimensionRecord) -> Result<(), AllocError> {
+    answer.push_str(incoming.natural.as_str())?;
+    push_next(answer, incoming.day.key() as i128)?;
     answer.push_str("|")?;
-    push_values(answer, &told.values)?;
+    push_values(answer, &incoming.values)?;
     answer.push_str("\n")
 }
 
@@ -313,6 +313,7 @@ fn push_found(answer: &mut String, bytes: &[u8], found: &Faults) -> Result<(), A
     Ok(())
 }
 
+/// The row of a fault, the line of the file where it begins, the column's place or `-`, the kind, and after `|` the text that stands there.
 fn push_located(answer: &mut String, bytes: &[u8], listed: &ListedFault) -> Result<(), AllocError> {
     let fault = &listed.fault.fault;
     push_number(answer, fault.number as i128)?;

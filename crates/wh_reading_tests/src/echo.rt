@@ -72,7 +72,7 @@ const TOLD: [(&str, &str); 11] = [
 ];
 
 /// What went wrong in a scenario, empty where each step answers what it must.
-fn told(alloc: Global, scenario: &str) -> Result<String, AllocError> {
+fn difference_in(alloc: Global, scenario: &str) -> Result<String, AllocError> {
     match difference::<Echo>(alloc, &[scenario]) {
         Ok(None) => Ok(String::new(alloc)),
         Ok(Some(line)) => Ok(line),
@@ -83,7 +83,7 @@ fn told(alloc: Global, scenario: &str) -> Result<String, AllocError> {
 #[test]
 fn differences_are_told(rt: HostRuntime) -> Result<(), Fail> {
     for (scenario, line) in TOLD {
-        assert_eq!(rt; told(rt.alloc(), scenario)?.as_str(), line);
+        assert_eq!(rt; difference_in(rt.alloc(), scenario)?.as_str(), line);
     }
     Ok(())
 }

@@ -33,7 +33,7 @@ use Rattle.wh_history.specs.Accepted.{Accepted, Content, Governs, Describes, Sel
 use Rattle.wh_history.specs.Tables.{Limits}
 use Rattle.wh_history.proofs.Joins.{all_append, all_weaker}
 use Rattle.wh_history.proofs.Untouched.{described-last}
-use Rattle.wh_model.specs.Sound.{making_of}
+use Rattle.wh_model.specs.Sound.{init_of}
 use Rattle.wh_model.proofs.GrownOthers.{same_dim_is}
 use Rattle.wh_admission.specs.Admission.{current_policy, of_batch, of_file, judged_sales, judged_voids, content_of, AreAdmitted, IsOfItsBytes, AreOfTheirBytes}
 use Rattle.wh_admission.specs.declared.command.Refusal.{Refusal}
@@ -218,7 +218,7 @@ all_more before (a ∷ later) all are = subst AllWritten (append_assoc before (a
 all_written : (limits : Limits) (commands : List Accepted) → AreAdmitted limits commands → AllWritten commands
 all_written limits commands it =
     let steps = stepped limits commands it in
-    let making = making_of steps.policy steps.bytes in
+    let making = init_of steps.policy steps.bytes in
     let of_bytes = contents_are_read limits making steps.later (subst (AreAdmitted limits) steps.begins it) in
     subst AllWritten (sym steps.begins) (all_more (making ∷ []) steps.later (λ dim. tt) of_bytes)
 

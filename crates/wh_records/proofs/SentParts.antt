@@ -20,7 +20,7 @@ use Rattle.wh_history.specs.Tables.{Limits}
 use Rattle.wh_history.proofs.Joins.{all_append}
 use Rattle.wh_history.proofs.Untouched.{described-last}
 use Rattle.wh_rows.specs.Types.{is_key}
-use Rattle.wh_model.specs.Sound.{making_of, changes_kept}
+use Rattle.wh_model.specs.Sound.{init_of, changes_kept}
 use Rattle.wh_admission.specs.Admission.{current_policy, content_of, accepted_as, number_for, accepted_after, accepted_after_all, AreAdmitted}
 use Rattle.wh_admission.specs.declared.command.Command.{Command}
 use Rattle.wh_admission.proofs.Migrated.{policy_with}
@@ -199,7 +199,7 @@ module _ (limits : Limits) (commands : List Accepted) (policy : Policy) (it : Ar
 
 -- ---- all of them
 
-new_after_making : (policy : Policy) (bytes : List ℕ) (ids : List (List ℕ)) → AllByRecursion (λ id. bytes_eq (codes "init") id ≡ false) ids → AllByRecursion (IsNew (making_of policy bytes ∷ [])) ids
+new_after_making : (policy : Policy) (bytes : List ℕ) (ids : List (List ℕ)) → AllByRecursion (λ id. bytes_eq (codes "init") id ≡ false) ids → AllByRecursion (IsNew (init_of policy bytes ∷ [])) ids
 new_after_making policy bytes [] apart = tt
 new_after_making policy bytes (id ∷ ids) apart = (rw apart.0 refl, new_after_making policy bytes ids apart.1)
 
@@ -207,7 +207,7 @@ pub carrying_is_accepted : CarryingIsAccepted
 unfolding IsDistinct
 carrying_is_accepted limits others commands policy bytes ids it governed written are =
     let list : List DimensionPart = parts_of policy commands in
-    let making : Accepted = making_of policy bytes in
+    let making : Accepted = init_of policy bytes in
     let room = are.commands in
     let changes = are.changes in
     let next_is : next_file others policy bytes ids list ≡ making ∷ accepted_parts policy ids list =

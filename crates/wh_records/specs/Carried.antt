@@ -52,11 +52,11 @@ slots_in dim commands = length (types_in dim commands)
 abbrev pub records_of : Dim → List Accepted → List DimensionRecord
 records_of dim commands = flat_map (λ natural. dated_records (slots_in dim commands) natural (changes_of dim commands natural)) (members dim commands)
 
--- the first records
+-- the first records of a dimension, of the members that need one
 abbrev pub firsts_of : Dim → List Accepted → List DimensionRecord
 firsts_of dim commands = flat_map (λ natural. first_records (types_in dim commands) natural (changes_of dim commands natural)) (members dim commands)
 
--- those of a kind
+-- the records of a dimension of one kind, first or dated
 abbrev pub carried_of : RecordKind → Dim → List Accepted → List DimensionRecord
 carried_of First dim commands = firsts_of dim commands
 carried_of Dated dim commands = records_of dim commands

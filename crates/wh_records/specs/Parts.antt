@@ -43,10 +43,11 @@ parts attributes records = parts_within (length records) attributes records
 abbrev pub carried_part : List Attribute → (firsts dated : List DimensionRecord) → ℕ → List DimensionRecord
 carried_part attributes firsts dated place = if nat_le (suc place) (length firsts) then part_from attributes firsts place else part_from attributes dated (place - length firsts)
 
+-- the part, of all that is carried of a dimension, that begins at this place
 abbrev pub part_at : Policy → List Accepted → Dim → ℕ → List DimensionRecord
 part_at policy commands dim place = carried_part (policy_attributes policy dim) (firsts_of dim commands) (records_of dim commands) place
 
--- it as a batch
+-- this is that part, as a batch
 pub record IsPartAt (policy : Policy) (commands : List Accepted) (dim : Dim) (place : ℕ) (part : Part) : Type 0 where
   pub text : part.text.items ≡ records_text (policy_attributes policy dim) (part_at policy commands dim place)
   pub records : part.records ≡ length (part_at policy commands dim place)

@@ -10,7 +10,7 @@ use Rattle.wh_batch.specs.declared.kind.CommandKind.TheVariants.{Batch}
 use Rattle.wh_batch.specs.declared.kind.BatchKind.TheVariants.{Dimension}
 use Rattle.wh_history.specs.Accepted.{Accepted}
 use Rattle.wh_history.specs.Tables.{Limits}
-use Rattle.wh_model.specs.Sound.{making_of}
+use Rattle.wh_model.specs.Sound.{init_of}
 use Rattle.wh_rows.specs.Limits.{are_limits}
 use Rattle.wh_rows.specs.Types.{is_key}
 use Rattle.wh_admission.specs.Admission.{AreAdmitted, accepted_after_all}
@@ -49,7 +49,7 @@ pub record AreIdsFor (limits : Limits) (parts : List DimensionPart) (ids : List 
 
 -- the next file, made under the policy of these bytes and sent these parts
 abbrev pub next_file : Limits → Policy → (bytes : List ℕ) → (ids : List (List ℕ)) → List DimensionPart → List Accepted
-next_file limits policy bytes ids parts = accepted_after_all limits (making_of policy bytes ∷ []) (part_commands policy ids parts)
+next_file limits policy bytes ids parts = accepted_after_all limits (init_of policy bytes ∷ []) (part_commands policy ids parts)
 
 -- Sent to a new file under the policy in force each of the commands is accepted: none is refused, and they carry the members.
 abbrev pub CarryingIsAccepted : Type 0

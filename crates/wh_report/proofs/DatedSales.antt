@@ -28,7 +28,7 @@ use Rattle.wh_history.specs.Tables.{Limits}
 use Rattle.wh_history.proofs.Joins.{all_append, all_weaker}
 use Rattle.wh_history.proofs.Basics.{both_true}
 use Rattle.wh_model.specs.Defined.{calendar_at, day_at}
-use Rattle.wh_model.specs.Sound.{making_of}
+use Rattle.wh_model.specs.Sound.{init_of}
 use Rattle.wh_model.specs.Sound.{IsGoodSale}
 use Rattle.wh_admission.specs.Admission.{current_policy, of_batch, of_file, judged_records, judged_voids, content_of, accepted_as, answer, with_content, after_answer, accepted_after, accepted_after_all}
 use Rattle.wh_admission.specs.declared.command.Command.{Command}
@@ -152,5 +152,5 @@ all_dated commands some (s ∷ sales) good within = (dated commands (policy_afte
 pub admitted_sales_are_dated : AdmittedSalesAreDated
 admitted_sales_are_dated limits commands it =
     let ok = admitted_sound limits commands it in
-    let within : IsWithinAll commands = subst IsWithinAll (sym it.admitted) (within_after_all limits (making_of it.policy it.bytes ∷ []) it.sent tt) in
+    let within : IsWithinAll commands = subst IsWithinAll (sym it.admitted) (within_after_all limits (init_of it.policy it.bytes ∷ []) it.sent tt) in
     all_dated commands ok.governed (sold commands) ok.sales within

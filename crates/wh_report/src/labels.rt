@@ -127,7 +127,7 @@ impl LabelColumn {
         }
     }
 
-    /// The label that a profile has.
+    /// The label that a profile with these values has.
     fn value_text<'a>(self, values: &'a Values) -> Option<&'a Value>
         ensures { option_map (λ text. text.now) result ≡ value_text self values.now }
     {

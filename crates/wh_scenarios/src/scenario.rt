@@ -138,7 +138,11 @@ fn first_difference<'a>(answered: &'a str, wanted: &'a str) -> Option<(&'a str, 
 }
 
 /// Where a step answers otherwise than it must, where it stands and how the answers differ.
-fn told(alloc: Global, step: &Step<'_>, answered: &str) -> Result<Option<String>, AllocError> {
+fn difference_at(
+    alloc: Global,
+    step: &Step<'_>,
+    answered: &str,
+) -> Result<Option<String>, AllocError> {
     let number = step.number;
     let words = step.words;
     match first_difference(answered, step.answer.as_str()) {
@@ -149,7 +153,7 @@ fn told(alloc: Global, step: &Step<'_>, answered: &str) -> Result<Option<String>
     }
 }
 
-fn told_not_made(alloc: Global, step: &Step<'_>) -> Result<String, AllocError> {
+fn not_made(alloc: Global, step: &Step<'_>) -> Result<String, AllocError> {
     let number = step.number;
     let words = step.words;
     format!(in alloc; "line {number}, {words}: is not made")
@@ -165,9 +169,9 @@ fn make<D: Driver>(
         let mut answer = String::new(alloc);
         driver = match driver.perform(alloc, step, &mut answer) {
             Ok(driver) => driver,
-            Err(NotMade) => return Ok(Err(told_not_made(alloc, step)?)),
+            Err(NotMade) => return Ok(Err(not_made(alloc, step)?)),
         };
-        if let Some(line) = told(alloc, step, answer.as_str())? {
+        if let Some(line) = difference_at(alloc, step, answer.as_str())? {
             return Ok(Err(line));
         }
     }
@@ -223,9 +227,9 @@ pub fn difference<D: Driver>(alloc: Global, texts: &[&str]) -> Result<Option<Str
         return Ok(opened::<D>(alloc, opening)?.err());
     }
     for scenario in named {
-        let told = scenario.difference::<D>(alloc, opening)?;
-        if told.is_some() {
-            return Ok(told);
+        let line = scenario.difference::<D>(alloc, opening)?;
+        if line.is_some() {
+            return Ok(line);
         }
     }
     Ok(None)

@@ -3,8 +3,8 @@ use Rattle.std.proofs.Common.{◌≡◌, ◌∙◌, ◌⊎◌, inl, inr, refl, s
 use Rattle.std.specs.Prelude.{All, IsUtf8}
 use Rattle.wh_program.specs.Inputs.{Files, Refusals}
 use Rattle.wh_program.specs.Run.{GoesOut, Prints}
-use Rattle.wh_program.specs.Tasks.{IsToldBefore, Runs, RunsShut, SparesOthers, Stores, WhenShut}
-use Rattle.wh_program.specs.Warehouse.{IsNoFileOr, PrintsShut, Told, printed}
+use Rattle.wh_program.specs.Tasks.{IsAnsweredBefore, Runs, RunsShut, SparesOthers, Stores, WhenShut}
+use Rattle.wh_program.specs.Warehouse.{IsNoFileOr, PrintsShut, Shown, printed}
 use Rattle.wh_words.specs.CommandLine.{is_operand}
 use Rattle.wh_words.specs.Asked.{asked_by}
 use Rattle.wh_words.specs.Task.{Task, warehouse_of}
@@ -15,7 +15,7 @@ use Rattle.wh_words.proofs.Words.{IsTrial}
 use Rattle.wh_session.proofs.LineFiles.{line_keeps}
 
 -- a trial leaves the host
-trial_same : (holds : Files) (refuses : Refusals) (before after : Stores) (same : Type 0) (prints : Told → Type 0) (goes_out : Option ℕ → Told → Type 0) (task : Task)
+trial_same : (holds : Files) (refuses : Refusals) (before after : Stores) (same : Type 0) (prints : Shown → Type 0) (goes_out : Option ℕ → Shown → Type 0) (task : Task)
     → IsTrial task → Runs holds refuses before after same prints goes_out task → same
 trial_same holds refuses before after same prints goes_out task (dim, path, policy, is) runs = (subst (Runs holds refuses before after same prints goes_out) is runs).0
 
@@ -31,10 +31,10 @@ module _ {H : Type 0} (holds : H → Files) (refuses : H → Refusals) (stores :
 
   module _ (before after : H) (old new : Option (List ℕ)) (code : ℕ) where
     -- where the host can't open the file, a command about it is answered so, and changes nothing
-    closed_at : (task : Task) → warehouse_of task ≡ Some file → RunsShut (shut before) (holds before) (after ≡ before) (λ told. Prints old new code (printed told)) task → shut before file
-        → PrintsShut (after ≡ before) (IsNoFileOr file (IsToldBefore (holds before) task)) (λ told. Prints old new code (printed told))
+    closed_at : (task : Task) → warehouse_of task ≡ Some file → RunsShut (shut before) (holds before) (after ≡ before) (λ shown. Prints old new code (printed shown)) task → shut before file
+        → PrintsShut (after ≡ before) (IsNoFileOr file (IsAnsweredBefore (holds before) task)) (λ shown. Prints old new code (printed shown))
     closed_at task is closed =
-        subst (λ (name : Option (List ℕ)). WhenShut (shut before) name (λ f. PrintsShut (after ≡ before) (IsNoFileOr f (IsToldBefore (holds before) task)) (λ told. Prints old new code (printed told)))) is closed
+        subst (λ (name : Option (List ℕ)). WhenShut (shut before) name (λ f. PrintsShut (after ≡ before) (IsNoFileOr f (IsAnsweredBefore (holds before) task)) (λ shown. Prints old new code (printed shown)))) is closed
 
     task_keeps : (words : List (List ℕ)) (task : Task) → (warehouse_of task ≡ Some file) ⊎ IsTrial task → asked_by words ≡ Some task → RunsWords holds refuses stores shut words before after old new code
         → KeepsTo stores shut file before after
@@ -43,7 +43,7 @@ module _ {H : Type 0} (holds : H → Files) (refuses : H → Refusals) (stores :
       closed = λ closed. (closed_at task is (runs.closed task asked) closed).0;
     }
     task_keeps words task (inr trial) asked runs =
-        keeps_same before after (trial_same (holds before) (refuses before) (stores before) (stores after) (after ≡ before) (λ told. Prints old new code (printed told)) (λ cut told. GoesOut cut old new code (printed told)) task trial (runs.reads task asked).0)
+        keeps_same before after (trial_same (holds before) (refuses before) (stores before) (stores after) (after ≡ before) (λ shown. Prints old new code (printed shown)) (λ cut shown. GoesOut cut old new code (printed shown)) task trial (runs.reads task asked).0)
 
     words_keep : (words : List (List ℕ)) → ((task : Task) → asked_by words ≡ Some task → (warehouse_of task ≡ Some file) ⊎ IsTrial task) → RunsWords holds refuses stores shut words before after old new code
         → KeepsTo stores shut file before after
@@ -56,7 +56,7 @@ module _ {H : Type 0} (holds : H → Files) (refuses : H → Refusals) (stores :
     -- where the host can't open the file, the answer to a line is this
     pub shut_answered : (words : List (List ℕ)) (task : Task) → shut before file → All IsUtf8 words → asked_by (with_file file words) ≡ Some task → warehouse_of task ≡ Some file
         → IsAnswered holds refuses stores shut file (Words words) before after old new code
-        → PrintsShut (after ≡ before) (IsNoFileOr file (IsToldBefore (holds before) task)) (λ told. Prints old new code (printed told))
+        → PrintsShut (after ≡ before) (IsNoFileOr file (IsAnsweredBefore (holds before) task)) (λ shown. Prints old new code (printed shown))
     shut_answered words task is texts asked about (inl (inl runs)) = closed_at task about (runs.closed task asked) is
     shut_answered words task is texts asked about (inl (inr (none, printed))) = absurd (none texts)
     shut_answered words task is texts asked about (inr (same, memory)) = (same, (Err (record {}), tt, memory))
@@ -83,8 +83,8 @@ module _ {H : Type 0} (holds : H → Files) (refuses : H → Refusals) (stores :
         keeps_on before went.0 after (goes_keeps (meaning_of l) before went.0 old went.1 went.2 went.4) (all_keep lines went.0 after went.1 new went.3 went.5)
 
     lost_keeps : (before after : H) (old new : Option (List ℕ)) → LosesInput holds refuses stores shut before after old new → KeepsTo stores shut file before after
-    lost_keeps before after old new (inl told) = keeps_same before after told.0
-    lost_keeps before after old new (inr told) = keeps_same before after told.0
+    lost_keeps before after old new (inl shown) = keeps_same before after shown.0
+    lost_keeps before after old new (inr shown) = keeps_same before after shown.0
 
     fails_keep : (lines : List (List ℕ)) (before after : H) (old new : Option (List ℕ)) → Fails holds refuses stores shut file lines before after old new → KeepsTo stores shut file before after
     fails_keep [] before after old new lost = lost_keeps before after old new lost

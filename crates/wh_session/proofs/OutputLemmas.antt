@@ -6,7 +6,7 @@ use Rattle.std.proofs.KnownBytes.{Appends-trans}
 use Rattle.std.proofs.lemmas.List.{take-append-drop}
 use Rattle.wh_program.specs.Answer.{failed}
 use Rattle.wh_program.specs.Run.{Prints, out_of_memory}
-use Rattle.wh_program.specs.Warehouse.{Told, printed}
+use Rattle.wh_program.specs.Warehouse.{Shown, printed}
 use Rattle.wh_session.specs.Session.{IsBegun, no_input_line}
 
 pub at_err : {T E P : Type 0} (r : Result T E) → P → OnErr r P
@@ -42,7 +42,7 @@ fails_so old new code text (inl whole) = whole.status
 fails_so old new code text (inr (kept, cut)) = cut.status
 
 -- the input is lost, and that is told; or memory ran out for the line
-pub lost : (old new : Option (List ℕ)) (code : ℕ) (told : Told) → IfOk told (λ a. a ≡ failed no_input_line) → Prints old new code (printed told)
+pub lost : (old new : Option (List ℕ)) (code : ℕ) (shown : Shown) → IfOk shown (λ a. a ≡ failed no_input_line) → Prints old new code (printed shown)
     → Prints old new 3 (failed no_input_line) ⊎ Prints old new 3 out_of_memory
 lost old new code (Ok a) is went =
     let line = subst (Prints old new code) is went in

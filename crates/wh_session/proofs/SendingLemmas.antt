@@ -36,7 +36,7 @@ use Rattle.wh_program.specs.Reply.{opening_answer, sent_answer}
 use Rattle.wh_program.specs.Run.{Prints, PrintsWhole}
 use Rattle.wh_program.specs.Standing.{Holds, Standing, Rests}
 use Rattle.wh_program.specs.Tasks.{Stores}
-use Rattle.wh_program.specs.Warehouse.{AnswersUpgrade, AnswersWith, IsCommandOf, IsRefused, LeavesReplied, Sends, SendsTo, Told, printed}
+use Rattle.wh_program.specs.Warehouse.{AnswersUpgrade, AnswersWith, IsCommandOf, IsRefused, LeavesReplied, Sends, SendsTo, Shown, printed}
 use Rattle.wh_words.specs.Line.{Meaning, Words, meaning_of}
 use Rattle.wh_session.specs.Line.{with_file}
 use Rattle.wh_session.specs.Laws.{AllSend}
@@ -95,9 +95,9 @@ unopened_status opening.Memory = refl
 unopened_status (opening.Store cause) = refl
 
 -- an answer whose status is always that of a failure
-told_failed : (old new : Option (List ℕ)) (code : ℕ) (told : Told) (Tells : Printed → Type 0) → ((a : Printed) → Tells a → a.status ≡ 3) → IfOk told Tells → Prints old new code (printed told) → code ≡ 3
-told_failed old new code (Ok a) Tells so tells prints = failed_status old new code a (so a tells) prints
-told_failed old new code (Err e) Tells so tells prints = failed_status old new code _ refl prints
+shown_failed : (old new : Option (List ℕ)) (code : ℕ) (shown : Shown) (Tells : Printed → Type 0) → ((a : Printed) → Tells a → a.status ≡ 3) → IfOk shown Tells → Prints old new code (printed shown) → code ≡ 3
+shown_failed old new code (Ok a) Tells so tells prints = failed_status old new code a (so a tells) prints
+shown_failed old new code (Err e) Tells so tells prints = failed_status old new code _ refl prints
 
 lacks_status : (path file : List ℕ) (Absent Refused : Type 0) (a : Printed) → (Absent × (a ≡ failed (no_file_line path))) ⊎ (Refused × (a ≡ failed (no_file_line file))) → a.status ≡ 3
 lacks_status path file Absent Refused a (inl (absent, is)) = ap (λ (b : Printed). b.status) is
@@ -131,9 +131,9 @@ module _ (limits : Limits) (commands : List Accepted) (c : Command) (after : Sta
   reply_sent reply leaves (inr (kept, cut)) = absurd (no_failure cut.status)
 
   -- over an opened warehouse it is a reply, and no other answer is one
-  opened_sent : (told : Told) → SendsTo c (Holds limits commands) told after → Prints old new code (printed told) → IsSent limits commands c after old new code
-  opened_sent told (inl r) prints = reply_sent r.reply r.leaves (subst (Prints old new code) r.tells prints)
-  opened_sent told (inr u) prints = absurd (no_failure (told_failed old new code told (λ a. a ≡ opening_answer u.why) (λ a is. ap (λ (b : Printed). b.status) is ∙ unopened_status u.why) u.tells prints))
+  opened_sent : (shown : Shown) → SendsTo c (Holds limits commands) shown after → Prints old new code (printed shown) → IsSent limits commands c after old new code
+  opened_sent shown (inl r) prints = reply_sent r.reply r.leaves (subst (Prints old new code) r.tells prints)
+  opened_sent shown (inr u) prints = absurd (no_failure (shown_failed old new code shown (λ a. a ≡ opening_answer u.why) (λ a is. ap (λ (b : Printed). b.status) is ∙ unopened_status u.why) u.tells prints))
 
 -- ---- a line
 
@@ -151,25 +151,25 @@ module _ {H : Type 0} (holds : H → Files) (refuses : H → Refusals) (stores :
     one_sent : (e : ManifestEntry) (c : Command) (standing : Standing) → IsCommandOf (holds before) e.kind e.id e.path (Some c) → stores after file standing → IsSent limits commands c standing old new code → IsOneSent e limits commands before after old new code
     one_sent e c standing of_entry stands (is, (line, went, text)) = record { c = c; of_entry = of_entry; stands = subst (stores after file) is stands; line = line; went = went; text = text }
 
-    not_there : (told : Told) (missing : Printed → Type 0) → ((a : Printed) → missing a → a.status ≡ 3) → IfOk told missing → Prints old new code (printed told) → ⊥
-    not_there told missing so tells prints = no_failure limits commands (record { id = []; kind = Upgrade; bytes = [] }) (Rests (Holds limits commands)) old new code well (told_failed old new code told missing so tells prints)
+    not_there : (shown : Shown) (missing : Printed → Type 0) → ((a : Printed) → missing a → a.status ≡ 3) → IfOk shown missing → Prints old new code (printed shown) → ⊥
+    not_there shown missing so tells prints = no_failure limits commands (record { id = []; kind = Upgrade; bytes = [] }) (Rests (Holds limits commands)) old new code well (shown_failed old new code shown missing so tells prints)
 
-    with_input : (id path : List ℕ) (kind : CommandKind) (told : Told) → AnswersWith (as_input kind (holds before)) (refuses before) (stores after file) (Sends kind id) (Holds limits commands) file path told
-        → Prints old new code (printed told) → IsOneSent (record { kind = kind; id = id; path = path }) limits commands before after old new code
-    with_input id path kind told (inl tried) prints =
+    with_input : (id path : List ℕ) (kind : CommandKind) (shown : Shown) → AnswersWith (as_input kind (holds before)) (refuses before) (stores after file) (Sends kind id) (Holds limits commands) file path shown
+        → Prints old new code (printed shown) → IsOneSent (record { kind = kind; id = id; path = path }) limits commands before after old new code
+    with_input id path kind shown (inl tried) prints =
         let c : Command = record { id = id; kind = kind; bytes = tried.bytes } in
         one_sent (record { kind = kind; id = id; path = path }) c tried.tried.after (tried.bytes, tried.held, refl) tried.tried.then_stands
-        (opened_sent limits commands c tried.tried.after old new code well told tried.tried.did prints)
-    with_input id path kind told (inr not) prints =
-        absurd (not_there told (λ a. (as_input kind (holds before) path None × (a ≡ failed (no_file_line path))) ⊎ IsRefused (refuses before) file a) (λ a missing. lacks_status path file (as_input kind (holds before) path None) (refuses before file) a missing) not.tells prints)
+        (opened_sent limits commands c tried.tried.after old new code well shown tried.tried.did prints)
+    with_input id path kind shown (inr not) prints =
+        absurd (not_there shown (λ a. (as_input kind (holds before) path None × (a ≡ failed (no_file_line path))) ⊎ IsRefused (refuses before) file a) (λ a missing. lacks_status path file (as_input kind (holds before) path None) (refuses before file) a missing) not.tells prints)
 
-    without_input : (id path : List ℕ) (told : Told) → AnswersUpgrade (refuses before) (stores after file) (Holds limits commands) file id told → Prints old new code (printed told)
+    without_input : (id path : List ℕ) (shown : Shown) → AnswersUpgrade (refuses before) (stores after file) (Holds limits commands) file id shown → Prints old new code (printed shown)
         → IsOneSent (record { kind = Upgrade; id = id; path = path }) limits commands before after old new code
-    without_input id path told (inl tried) prints =
+    without_input id path shown (inl tried) prints =
         let c : Command = record { id = id; kind = Upgrade; bytes = [] } in
-        one_sent (record { kind = Upgrade; id = id; path = path }) c tried.after ([], refl, refl) tried.then_stands (opened_sent limits commands c tried.after old new code well told tried.did prints)
-    without_input id path told (inr not) prints =
-        absurd (not_there told (IsRefused (refuses before) file) (λ a refused. ap (λ (b : Printed). b.status) refused.1) not.tells prints)
+        one_sent (record { kind = Upgrade; id = id; path = path }) c tried.after ([], refl, refl) tried.then_stands (opened_sent limits commands c tried.after old new code well shown tried.did prints)
+    without_input id path shown (inr not) prints =
+        absurd (not_there shown (IsRefused (refuses before) file) (λ a refused. ap (λ (b : Printed). b.status) refused.1) not.tells prints)
 
     run_sent : (kind : CommandKind) (id path : List ℕ) → is_operand id ≡ true → is_operand path ≡ true → stores before file (Rests (Holds limits commands))
         → RunsWords holds refuses stores shut (with_file file (sending_words kind id path)) before after old new code → IsOneSent (record { kind = kind; id = id; path = path }) limits commands before after old new code

@@ -122,8 +122,8 @@ module _ {H : Type 0} (holds : H → Files) (refuses : H → Refusals) (stores :
       })
 
   pub loses : (now : H) (old new : Option (List ℕ)) → Prints old new 3 (failed no_input_line) ⊎ Prints old new 3 out_of_memory → LosesInput holds refuses stores shut now now old new
-  loses now old new (inl told) = inl (refl, told)
-  loses now old new (inr told) = inr (refl, told)
+  loses now old new (inl shown) = inl (refl, shown)
+  loses now old new (inr shown) = inr (refl, shown)
 
   fails_before : (left : List (List ℕ)) (before after : H) (old new : Option (List ℕ)) → LosesInput holds refuses stores shut before after old new → Fails holds refuses stores shut file left before after old new
   fails_before [] before after old new loses = loses

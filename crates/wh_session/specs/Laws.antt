@@ -14,7 +14,7 @@ use Rattle.wh_program.specs.Delivery.{LeavesDelivered}
 use Rattle.wh_program.specs.Inputs.{Files, Refusals}
 use Rattle.wh_program.specs.Run.{Prints}
 use Rattle.wh_program.specs.Standing.{Holds, Standing, Rests}
-use Rattle.wh_program.specs.Tasks.{IsToldBefore, Stores}
+use Rattle.wh_program.specs.Tasks.{IsAnsweredBefore, Stores}
 use Rattle.wh_program.specs.Warehouse.{IsCommandOf, IsNoFileOr, PrintsShut, printed}
 use Rattle.wh_words.specs.Line.{Words, meaning_of}
 use Rattle.wh_session.specs.Line.{with_file}
@@ -39,10 +39,10 @@ module _ {H : Type 0} (holds : H → Files) (refuses : H → Refusals) (stores :
       → is_operand file ≡ true → Session holds refuses stores shut file lines before after old new code → KeepsTo stores shut file before after
 
   -- Where the host can't open a session's file, a line that is a command about it is answered by the file's line, or by what is answered before it is opened; or memory ran out.
-  abbrev pub ShutFilesAreTold : Type 0
-  ShutFilesAreTold = (file : List ℕ) (words : List (List ℕ)) (task : Task) (before after : H) (old new : Option (List ℕ)) (code : ℕ)
+  abbrev pub ShutFilesAreReported : Type 0
+  ShutFilesAreReported = (file : List ℕ) (words : List (List ℕ)) (task : Task) (before after : H) (old new : Option (List ℕ)) (code : ℕ)
       → shut before file → All IsUtf8 words → asked_by (with_file file words) ≡ Some task → warehouse_of task ≡ Some file → IsAnswered holds refuses stores shut file (Words words) before after old new code
-      → PrintsShut (after ≡ before) (IsNoFileOr file (IsToldBefore (holds before) task)) (λ told. Prints old new code (printed told))
+      → PrintsShut (after ≡ before) (IsNoFileOr file (IsAnsweredBefore (holds before) task)) (λ shown. Prints old new code (printed shown))
 
   -- the lines send these commands: each is that of its entry, by the files that the host held when its line was answered
   abbrev pub AllSend : (file : List ℕ) → List (List ℕ) → List ManifestEntry → List Command → (before : H) → (old : Option (List ℕ)) → Type 0

@@ -39,9 +39,9 @@ module _ {H : Type 0} (holds : H → Files) (refuses : H → Refusals) (stores :
   -- what a run of the program with any words does to a host, what the writer holds before and after, and its status
   pub record RunsWords (words : List (List ℕ)) (before after : H) (old new : Option (List ℕ)) (code : ℕ) : Type 0 where
     pub reads : (task : Task) → asked_by words ≡ Some task
-        → Runs (holds before) (refuses before) (stores before) (stores after) (after ≡ before) (λ told. Prints old new code (printed told)) (λ cut told. GoesOut cut old new code (printed told)) task × (code ≢ 4)
+        → Runs (holds before) (refuses before) (stores before) (stores after) (after ≡ before) (λ shown. Prints old new code (printed shown)) (λ cut shown. GoesOut cut old new code (printed shown)) task × (code ≢ 4)
     pub others : (task : Task) → asked_by words ≡ Some task → SparesOthers (stores before) (stores after) (warehouse_of task)
-    pub closed : (task : Task) → asked_by words ≡ Some task → RunsShut (shut before) (holds before) (after ≡ before) (λ told. Prints old new code (printed told)) task
+    pub closed : (task : Task) → asked_by words ≡ Some task → RunsShut (shut before) (holds before) (after ≡ before) (λ shown. Prints old new code (printed shown)) task
     pub declines : asked_by words ≡ None → (after ≡ before) × (((answer : Printed) × Declines (faults_in words) answer × Prints old new code answer) ⊎ Prints old new code out_of_memory)
 
   -- this is printed, and the host is as it was

@@ -47,7 +47,7 @@ NamesDamage stored Memory = ⊤
 NamesDamage stored (Damaged table) = HasDamageIn stored table
 NamesDamage stored (Store why) = ⊤
 
--- the database refused nothing, so the connection is as it was
+-- there is an answer, or a fault for which the database refused no call
 abbrev pub IsServed : {A : Type 0} → Result A ReadFault → Type 0
 IsServed result = IfErr result SparesStore
 
@@ -63,15 +63,15 @@ pub record IsAsItWas (old new : State) : Type 0 where
   pub mode : new.in_transaction ≡ old.in_transaction
   pub marks : new.marks ≡ old.marks
 
--- What a call that looks leaves of any database, whatever its schema is and whoever wrote its rows. The connection is as it was where the call was calm, and a
--- crash leaves only what it could have left before the call. Both are said of a disk that has returned what was written, as then it had before.
+-- What a call that looks leaves of a database, whoever wrote it and whatever its schema. Where the call was calm, the connection is as it was. A crash leaves
+-- only what it could have left before the call. Both hold if the disk has returned what was written, and then it had before the call.
 pub record Spares (old new : State) (calm : Type 0) : Type 0 where
   pub clean : HasCleanDisk new → HasCleanDisk old
   pub same : HasCleanDisk new → calm → IsAsItWas old new
   pub crash : HasCleanDisk new → (trees : Trees) → new.may_leave trees → old.may_leave trees
 
--- A call that reads rows is calm unless the database refused it. In tables at rest it meets no row out of its type. Whatever rows are stored, a table that it
--- names as damaged has such a row.
+-- A call that reads rows is calm unless the database refused it. In tables at rest no row is out of its type. Whatever is stored, a table that the call names as
+-- damaged stores a damaged row.
 pub record ReadsOnly {A : Type 0} (old new : State) (result : Result A ReadFault) : Type 0 where
   pub spares : Spares old new (IsServed result)
   pub sound : HasCleanDisk new → (t : Tables) → IsAtRest (Some t) old → IsUndamaged result
@@ -95,7 +95,7 @@ abbrev pub AreRead : {K V : Type 0} → Layout K V → List Row → Option (Vec 
 AreRead layout rows (Some read) = IsTrue (list_all layout.is_valid read.items) × (rows ≡ map layout.encode read.items)
 AreRead layout rows None = HasDamage layout rows
 
--- what no parameter was made for, before the query
+-- the fault where a parameter couldn't be made, so the query wasn't asked
 abbrev pub unasked : Cause → ReadFault
 unasked cause.Memory = Memory
 unasked cause.Disk = Store cause.Disk
@@ -108,17 +108,17 @@ FailsToShow layout table text params old new Memory = ⊤
 FailsToShow layout table text params old new (Damaged which) = (which ≡ table) × (answer : List Row) × Shown text params old new answer × HasDamage layout answer
 FailsToShow layout table text params old new (Store why) = IsCauseOfQuery text params old new why
 
--- Damaged names the table, and one of the stored rows that are asked for is out of its type
+-- `Damaged` names the table, and a stored row that is asked for is out of its type
 abbrev pub IsOfAskedDamage : {K V : Type 0} → Option Front → Layout K V → Table → List Row → ReadFault → Type 0
 IsOfAskedDamage front layout table stored Memory = ⊤
 IsOfAskedDamage front layout table stored (Damaged which) = (which ≡ table) × HasAskedDamage front layout stored
 IsOfAskedDamage front layout table stored (Store why) = ⊤
 
--- one of all of them
+-- the same where all rows are asked for
 abbrev pub IsOfDamage : {K V : Type 0} → Layout K V → Table → List Row → ReadFault → Type 0
 IsOfDamage = IsOfAskedDamage None
 
--- Damaged names the records, and one of the greatest anchor of these is out of its type
+-- `Damaged` names the table `change`, and one of its records with the greatest anchor is out of its type
 abbrev pub IsOfGreatestDamage : List Row → ReadFault → Type 0
 IsOfGreatestDamage stored Memory = ⊤
 IsOfGreatestDamage stored (Damaged which) = (which ≡ Change) × HasGreatestDamaged stored

@@ -1,6 +1,6 @@
 //! The tables into which many new rows are put at a time: the texts that put sixteen in.
 
-use crate::batched::BatchedTable;
+use crate::batched_table::BatchedTable;
 use wh_rows::tables;
 
 impl BatchedTable for tables::Member {

@@ -12,7 +12,7 @@ ghost use Rattle.wh_rows.specs.Meaning.{Means, ReadsSome};
 ghost use Rattle.wh_rows.specs.Raw.{ReadsStored};
 ghost use Rattle.wh_rows.specs.Questions.{has_durable};
 
-use crate::keeps::KeyedTable;
+use crate::keyed_table::KeyedTable;
 use wh_history::DimRow;
 use wh_policy::Dim;
 use wh_rows::tables;

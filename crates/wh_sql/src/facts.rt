@@ -14,7 +14,7 @@ ghost use Rattle.wh_rows.specs.Raw.{ReadsStored};
 ghost use Rattle.wh_rows.specs.Schema.{schema_in};
 ghost use Rattle.wh_rows.specs.Since.{is_of_members, is_since, unordered};
 
-use crate::keeps::KeyedTable;
+use crate::keyed_table::KeyedTable;
 use wh_rows::tables;
 
 /// The table of the facts of a format.

@@ -13,8 +13,8 @@ ghost use Rattle.wh_rows.specs.AtRest.{IsWriting, Leaves, IsCauseOf};
 ghost use Rattle.wh_rows.specs.Steps.{with_rows};
 ghost use Rattle.wh_sql.specs.Batches.{HasRun, IsNotPut};
 
-use crate::batched::BatchedTable;
-use crate::keeps::KeyedTable;
+use crate::batched_table::BatchedTable;
+use crate::keyed_table::KeyedTable;
 use sqlite::types::ValueRef;
 use sqlite::{Alter, Connection, ErrorCode};
 use std::alloc::Global;

@@ -69,7 +69,7 @@ pub(crate) fn dim_and_text<'a>(
     Ok(values)
 }
 
-/// A dimension.
+/// A dimension alone: the first column of the keys of its members.
 pub(crate) fn dim_key(alloc: Global, dim: Dim) -> Result<Vec<ValueRef<'static>>, Cause>
     ensures ok { IfOk result (λ values. bound values.items ≡ Int (pos (dim_number dim)) ∷ []) }
     ensures err { IfErr result (λ cause. cause ≡ Memory) }

@@ -1,8 +1,8 @@
 //! The question after a part of a table.
 
-use crate::keeps::KeyedTable;
+use crate::keyed_table::KeyedTable;
+use crate::paged_table::PagedTable;
 use crate::question::Question;
-use crate::scanned::PagedTable;
 use sqlite::types::ValueRef;
 use std::alloc::Global;
 use wh_rows::Cause;

@@ -2,7 +2,7 @@
 
 ghost use Rattle.wh_sql.specs.Described.{described};
 
-use crate::scanned::{PagedTable, PartStatements};
+use crate::paged_table::{PagedTable, PartStatements};
 use crate::visitor::TableVisitor;
 use std::alloc::{AllocError, Global};
 use wh_day::{DateRow, Day, Value};

@@ -19,7 +19,7 @@ ghost use Rattle.wh_sql.specs.declared.fault.ReadFault.TheVariants.{Memory};
 
 use crate::facts::Facts;
 use crate::fault::ReadFault;
-use crate::keeps::KeyedTable;
+use crate::keyed_table::KeyedTable;
 use crate::keys::day_key;
 use crate::read::read_on;
 use sqlite::types::ValueRef;

@@ -17,7 +17,7 @@ ghost use Rattle.wh_rows.specs.Raw.{AreAsked, ReadsPartStored};
 ghost use Rattle.wh_sql.specs.Reads.{ReadsOnly, SaysOfTables, SaysOfStored, IsUndamaged, IsOfAskedDamage, Shows, FailsToShow};
 
 use crate::fault::ReadFault;
-use crate::keeps::KeyedTable;
+use crate::keyed_table::KeyedTable;
 use crate::read::rows_shown;
 use sqlite::types::ValueRef;
 use sqlite::{Alter, Connection};

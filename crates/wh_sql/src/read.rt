@@ -15,7 +15,7 @@ ghost use Rattle.wh_sql.specs.declared.fault.ReadFault.TheVariants.{Memory, Dama
 ghost use Rattle.wh_rows.specs.declared.cause.Cause.TheVariants.{Size};
 
 use crate::fault::ReadFault;
-use crate::keeps::KeyedTable;
+use crate::keyed_table::KeyedTable;
 use sqlite::types::ValueRef;
 use sqlite::{Alter, Connection, Row};
 use std::alloc::Global;

@@ -119,9 +119,9 @@ fn count_row<C: FactAggregate>(tally: &mut C, format: Format, row: &Row) -> Resu
     }
 }
 
-/// Has a tally count each fact of a format by one of its keys, in whatever order they are stored. `Memory`: also where there are more
-/// facts than a `u64` counts. `Damaged`: a column that is read of a fact is out of its type. `Store`: also for facts of the second format in
-/// a warehouse of the first.
+/// Counts each fact of a format in a tally, by the key in the column `which`, in whatever order the facts are stored. `Memory`: also where
+/// there are more facts than a `u64` counts. `Damaged`: a column that is read of a fact is out of its type. `Store`: also for facts of the
+/// second format in a warehouse of the first.
 pub fn tally_facts<C: FactAggregate, S: Alter>(
     conn: &mut Connection<S>,
     format: Format,

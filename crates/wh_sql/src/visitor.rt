@@ -3,7 +3,7 @@
 ghost use Rattle.wh_rows.specs.declared.table.Table.{Table};
 ghost use Rattle.wh_sql.specs.Described.{Described, as_described};
 
-use crate::scanned::PagedTable;
+use crate::paged_table::PagedTable;
 use std::alloc::Global;
 
 /// What is done with a table, whichever it is, over two things that it may change.

@@ -11,7 +11,7 @@ ghost use Rattle.wh_rows.specs.Texts as texts;
 ghost use Rattle.wh_rows.specs.AtRest.{IsWriting, Leaves, IsCauseOf};
 ghost use Rattle.wh_sql.specs.Facts.{rekeying, with_rekeyed};
 
-use crate::keeps::KeyedTable;
+use crate::keyed_table::KeyedTable;
 use crate::keys::bind_rekey;
 use sqlite::{Alter, Connection};
 use std::alloc::Global;

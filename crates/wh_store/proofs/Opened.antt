@@ -1,4 +1,4 @@
--- What an open finds where there is no database.
+-- What an open finds where there is no database, and that a sound database isn't taken for none.
 use Rattle.std.proofs.Common.{◌≡◌, ℕ, ◌-◌, ◌*◌, ◌<◌, ◌≤◌, List, [], length, take, slice_index, Option, None, Some, unwrap_or, sym, refl, ap, subst, ◌∙◌, inl, inr, arith, get_or-take, length-take}
 use Rattle.std.proofs.Math.Logic.{∥∥₁_elim}
 use Rattle.sqlite_wal.specs.Format.{part}
@@ -30,6 +30,7 @@ module _ (size : ℕ) (image : Image) (pages : Pages) (found : Adopts size image
   long_name : 16 ≤ length (header_in pages)
   long_name = let name = sym (length-take 16 (header_in pages)) ∙ ap length sound.header.0.magic in omega (arith, name)
 
+  -- The log of a blank file adds no page, so page 1 is the file's own; that begins with the S of SQLite's magic text, and a blank file doesn't.
   is_there : (other : ℕ) → 0 < other → ¬ IsBlankFile other image
   is_there other some (inl none) = omega (arith, found.found.present)
   is_there other some (inr blank) =

@@ -29,7 +29,7 @@ abbrev pub SparesStore : OpenFault → Type 0
 SparesStore (Store cause) = ⊥
 SparesStore fault = ⊤
 
--- so the connection is as it was
+-- there is an answer, or a fault for which the database refused no call
 abbrev pub IsServed : {A : Type 0} → Result A OpenFault → Type 0
 IsServed result = IfErr result SparesStore
 

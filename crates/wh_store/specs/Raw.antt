@@ -25,7 +25,7 @@ IsNumberIn stored name number = (found : Option MetaRow) × IsLastOf meta (rows_
 
 -- what the number of the format that is stored says, by the newest format that is known, and where the tables of the second are there or not
 abbrev pub FormatIs : Format → Bool → Stored → Result Format OpenFault → Type 0
-FormatIs newest second stored told = (number : Option ℤ) × IsNumberIn stored (codes "format") number × (format_of newest second number ≡ told)
+FormatIs newest second stored format = (number : Option ℤ) × IsNumberIn stored (codes "format") number × (format_of newest second number ≡ format)
 
 -- It is refused with this fault: memory ran out, or the database refused the call; or the row of the format is damaged; or the format is why.
 abbrev pub IsRefusedOn : Format → Bool → Stored → OpenFault → Type 0
@@ -36,9 +36,9 @@ IsRefusedOn newest second stored fault = FormatIs newest second stored (Err faul
 
 -- the limits that are stored, where the three numbers are there and good
 abbrev pub LimitsAre : Stored → Option Limits → Type 0
-LimitsAre stored told =
+LimitsAre stored limits =
     (commands : Option ℤ) × (changes : Option ℤ) × (facts : Option ℤ) × IsNumberIn stored (codes "commands_max") commands × IsNumberIn stored (codes "changes_max") changes × IsNumberIn stored (codes "facts_max") facts
-    × (limits_of_numbers commands changes facts ≡ told)
+    × (limits_of_numbers commands changes facts ≡ limits)
 
 -- they are refused: one of the rows is damaged, or one is not there or not good
 abbrev pub IsLimitless : Stored → ReadFault → Type 0

@@ -11,7 +11,7 @@ use wh_sql::ReadFault;
 
 /// Why no tables can be made.
 #[derive(Clone, Copy, Debug, PartialEq, Eq, Error)]
-pub enum MakeFault {
+pub enum NotFree {
     /// A table, an index or a view has the name of one of the twelve tables.
     #[error("a name of the twelve tables is taken")]
     NotEmpty,

@@ -13,7 +13,7 @@ mod tables;
 mod transaction;
 mod writing;
 
-pub use fault::{MakeFault, OpenFault};
+pub use fault::{NotFree, OpenFault};
 pub use reopen::{into_files, open_fresh, open_path, restart};
 pub use scan::{Cursor, Scan, next_row};
 pub use scratch::{Scratch, open_scratch};

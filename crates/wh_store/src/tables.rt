@@ -33,7 +33,7 @@ ghost use Rattle.wh_store.specs.Opening.{SparesStore, IsTaken, IsRefusedWith, co
 ghost use Rattle.wh_store.specs.Raw.{FormatIs, IsRefusedOn, LimitsAre, IsLimitless};
 ghost use Rattle.wh_store.specs.Beginning.{FailsToBegin};
 
-use crate::fault::{MakeFault, OpenFault};
+use crate::fault::{NotFree, OpenFault};
 use crate::meta;
 use crate::transaction::begin;
 use crate::writing::Writing;
@@ -55,20 +55,20 @@ pub struct Tables<S: Alter> {
 impl<S: Alter> Tables<S> {
     ghost use Rattle.wh_store.specs.contracts.tables.Tables.{the_row};
 
-    /// Takes a connection to a database in which the names of the twelve tables are free. `Writing::make` then makes ten. `NotEmpty`: one of the
+    /// Takes a connection to a database in which the names of the twelve tables are free. `Writing::init` then makes ten. `NotEmpty`: one of the
     /// names is taken. An error hands the connection back.
-    pub fn make(conn: Connection<S>) -> Result<Tables<S>, (MakeFault, Connection<S>)>
+    pub fn for_init(conn: Connection<S>) -> Result<Tables<S>, (NotFree, Connection<S>)>
         ensures same { IfOk result (λ tables. tables.conn ≡ conn) }
         ensures back { IfErr result (λ e. e.1 ≡ conn) }
         ensures free { IfOk result (λ tables. is_any_taken (state S.Store conn).now.schema ≡ false) }
         ensures outside { IfOk result (λ _. conn.in_transaction ≡ false) }
-        ensures taken { IfErr result (λ e. ((e.0 ≡ MakeFault.NotEmpty) × (is_any_taken (state S.Store conn).now.schema ≡ true)) ⊎ ((e.0 ≡ MakeFault.Store Cause.Disk) × IsTrue conn.in_transaction)) }
+        ensures taken { IfErr result (λ e. ((e.0 ≡ NotFree.NotEmpty) × (is_any_taken (state S.Store conn).now.schema ≡ true)) ⊎ ((e.0 ≡ NotFree.Store Cause.Disk) × IsTrue conn.in_transaction)) }
     {
         if !conn.is_autocommit() {
-            return Err((MakeFault::Store(Cause::Disk), conn));
+            return Err((NotFree::Store(Cause::Disk), conn));
         }
         if is_any_taken(&conn) {
-            return Err((MakeFault::NotEmpty, conn));
+            return Err((NotFree::NotEmpty, conn));
         }
         Ok(Tables { conn })
     }

@@ -34,7 +34,8 @@ use wh_policy::Format;
 use wh_rows::tables::Meta;
 use wh_rows::{Cause, Limits, LineKey};
 use wh_sql::{
-    BatchedTable, KeyedTable, add_second, clear_facts, create, insert_new, put, rekey, remove,
+    BatchedTable, KeyedTable, add_format2_tables, clear_facts, create_tables, insert_new, put,
+    rekey, remove,
 };
 
 /// Edits of the tables. They are kept by `commit` alone: where it is dropped before that, it leaves nothing. After a call with an error it keeps
@@ -247,7 +248,7 @@ impl<'t, S: Alter> Writing<'t, S> {
     }
 
     /// Makes the ten tables of format 1, and the rows of meta for that format and these limits.
-    pub fn make(&mut self, alloc: Global, limits: Limits) -> Result<(), Cause>
+    pub fn init(&mut self, alloc: Global, limits: Limits) -> Result<(), Cause>
         ensures same_reference { self.new.tables.ghost_name ≡ self.old.tables.ghost_name }
         ensures clean { HasCleanDisk (state_of S.Store self.new.tables.now) → HasCleanDisk (state_of S.Store self.old.tables.now) }
         ensures counts { (state_of S.Store self.old.tables.now).faults ≤ (state_of S.Store self.new.tables.now).faults }
@@ -259,7 +260,7 @@ impl<'t, S: Alter> Writing<'t, S> {
         ensures noted { NotesRefusals self.old.refused self.new.refused result }
     {
         let refused = replace(&mut self.refused, true);
-        create(&mut self.tables.conn)?;
+        create_tables(&mut self.tables.conn)?;
         self.refused = refused;
         self.put_number(alloc, "changes_max", limits.changes())?;
         self.put_number(alloc, "commands_max", limits.commands())?;
@@ -268,7 +269,7 @@ impl<'t, S: Alter> Writing<'t, S> {
     }
 
     /// Makes the tables of the second format over a warehouse of the first. All rows stay, and the new tables have none.
-    pub fn add_second(&mut self) -> Result<(), Cause>
+    pub fn add_format2_tables(&mut self) -> Result<(), Cause>
         ensures same_reference { self.new.tables.ghost_name ≡ self.old.tables.ghost_name }
         ensures clean { HasCleanDisk (state_of S.Store self.new.tables.now) → HasCleanDisk (state_of S.Store self.old.tables.now) }
         ensures counts { (state_of S.Store self.old.tables.now).faults ≤ (state_of S.Store self.new.tables.now).faults }
@@ -282,7 +283,7 @@ impl<'t, S: Alter> Writing<'t, S> {
         ensures noted { NotesRefusals self.old.refused self.new.refused result }
     {
         let refused = replace(&mut self.refused, true);
-        add_second(&mut self.tables.conn)?;
+        add_format2_tables(&mut self.tables.conn)?;
         self.refused = refused;
         Ok(())
     }

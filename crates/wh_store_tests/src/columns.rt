@@ -153,7 +153,7 @@ fn each_column<S: Alter + Drop>(
     Ok(own.tried.saturating_add(other.tried))
 }
 
-/// Tries values that are all good, or all not.
+/// Tries values that are all good, or all not, and prints each that is read otherwise.
 fn each_value<S: Alter + Drop>(
     alloc: Global,
     trial: Trial<S>,
@@ -204,14 +204,14 @@ fn is_read<S: Alter + Drop>(
 
 /// Whether the only row of a table is read, and not found to be damaged.
 fn is_whole<H: Reads>(alloc: Global, held: &mut H, table: Table) -> Result<bool, Trouble> {
-    let mut told = String::new(alloc);
+    let mut answer = String::new(alloc);
     let step = Step {
         verb: "length",
         rest: "",
         body: "",
     };
-    match on_table(alloc, held, table, step, &mut told) {
-        Ok(()) if told.as_str() == "1\n" => Ok(true),
+    match on_table(alloc, held, table, step, &mut answer) {
+        Ok(()) if answer.as_str() == "1\n" => Ok(true),
         Err(Trouble::Damaged(found)) if found == table => Ok(false),
         Ok(()) => Err(Trouble::Unknown),
         Err(trouble) => Err(trouble),

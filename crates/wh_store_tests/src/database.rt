@@ -10,7 +10,7 @@ use sqlite::{Alter, Connection};
 use std::alloc::Global;
 use wh_policy::Format;
 use wh_rows::Cause;
-use wh_sql::{create, has_tables, is_any_taken};
+use wh_sql::{create_tables, has_tables, is_any_taken};
 
 /// A step on a database.
 pub fn on_database<S: Alter>(
@@ -23,7 +23,7 @@ pub fn on_database<S: Alter>(
         "sql" => Ok(conn.execute_batch(step.rest)?),
         "bound" => run_bound(alloc, conn, step, out),
         "number" => number(conn, step.rest, out),
-        "create" => Ok(create(conn)?),
+        "create" => Ok(create_tables(conn)?),
         "status" => status(conn, out),
         "past" => put_past(alloc, conn, out),
         "rekey" => rekey(alloc, conn, Format::One, step.rest),

@@ -2,7 +2,7 @@
 
 use crate::rows::{push_number_line, push_rows, row_of};
 use crate::sales::sales;
-use crate::told::line_key;
+use crate::shown::line_key;
 use crate::trouble::Trouble;
 use sqlite::Alter;
 use std::alloc::Global;

@@ -35,9 +35,9 @@ mod scenarios;
 #[cfg(test)]
 mod second;
 #[cfg(test)]
-mod tables;
+mod shown;
 #[cfg(test)]
-mod told;
+mod tables;
 #[cfg(test)]
 mod trouble;
 #[cfg(test)]

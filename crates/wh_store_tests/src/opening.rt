@@ -7,7 +7,7 @@ use sqlite::{Alter, Connection, MemStore};
 use std::alloc::Global;
 use wh_rows::Cause;
 use wh_scenarios::parted;
-use wh_store::{Format, Limits, MakeFault, OpenFault, Tables};
+use wh_store::{Format, Limits, NotFree, OpenFault, Tables};
 
 /// `COMMANDS CHANGES FACTS`: these limits.
 pub fn limits_of(words: &str) -> Result<Limits, Trouble> {
@@ -28,7 +28,7 @@ pub fn make_tables<S: Alter>(alloc: Global, tables: &mut Tables<S>) -> Result<()
 
 fn make_for<S: Alter>(alloc: Global, tables: &mut Tables<S>, limits: Limits) -> Result<u64, Cause> {
     let mut writing = tables.begin()?;
-    writing.make(alloc, limits)?;
+    writing.init(alloc, limits)?;
     writing.commit()
 }
 
@@ -48,8 +48,8 @@ pub fn run<S: Alter + Drop>(mut conn: Connection<S>, text: &str) -> Result<Conne
 /// The tables that may be made where their names are free.
 pub fn free<S: Alter + Drop>(
     conn: Connection<S>,
-) -> Result<Warehouse<S>, (MakeFault, Connection<S>)> {
-    match Tables::make(conn) {
+) -> Result<Warehouse<S>, (NotFree, Connection<S>)> {
+    match Tables::for_init(conn) {
         Ok(tables) => Ok(Warehouse {
             tables,
             format: Format::One,

@@ -3,7 +3,7 @@
 use crate::held::Reads;
 use crate::rows::{on_table, push_number_line, push_rows, table_of};
 use crate::sales::sales;
-use crate::told::Told;
+use crate::shown::Shown;
 use crate::trouble::Trouble;
 use crate::words::{Step, dim, number, push_answer};
 use std::alloc::{AllocError, Global};
@@ -54,7 +54,7 @@ fn answer_more<H: Reads>(
     }
 }
 
-fn told<T: Told, Q: Question<T>, H: Reads>(
+fn asked<T: Shown, Q: Question<T>, H: Reads>(
     alloc: Global,
     held: &mut H,
     question: &Q,
@@ -76,9 +76,9 @@ fn rows<H: Reads>(
         durable: number(durable)?,
     };
     match dim(name)? {
-        Dim::Product => told::<Product, RowsOf, H>(alloc, held, &question, out),
-        Dim::Store => told::<Store, RowsOf, H>(alloc, held, &question, out),
-        Dim::Customer => told::<Customer, RowsOf, H>(alloc, held, &question, out),
+        Dim::Product => asked::<Product, RowsOf, H>(alloc, held, &question, out),
+        Dim::Store => asked::<Store, RowsOf, H>(alloc, held, &question, out),
+        Dim::Customer => asked::<Customer, RowsOf, H>(alloc, held, &question, out),
     }
 }
 
@@ -105,7 +105,7 @@ fn greatest<H: Reads>(
 ) -> Result<(), Trouble> {
     let (name, rest) = parted(words, ' ');
     match Table::from_name(name) {
-        Some(Table::Profile) => told::<Profile, Greatest, H>(alloc, held, &Greatest, out),
+        Some(Table::Profile) => asked::<Profile, Greatest, H>(alloc, held, &Greatest, out),
         Some(Table::Member) => greatest_member(alloc, held, rest, out),
         _ => Err(Trouble::Unknown),
     }
@@ -118,7 +118,7 @@ fn greatest_member<H: Reads>(
     out: &mut String,
 ) -> Result<(), Trouble> {
     let question = GreatestOf { dim: dim(word)? };
-    told::<Member, GreatestOf, H>(alloc, held, &question, out)
+    asked::<Member, GreatestOf, H>(alloc, held, &question, out)
 }
 
 /// `DIMENSION`: the greatest surrogate key that a record of it stands at, or 0.
@@ -140,7 +140,7 @@ fn command<H: Reads>(
     out: &mut String,
 ) -> Result<(), Trouble> {
     let id = Value::new(alloc, id)?;
-    told::<Command, CommandOf<'_>, H>(alloc, held, &CommandOf { id: &id }, out)
+    asked::<Command, CommandOf<'_>, H>(alloc, held, &CommandOf { id: &id }, out)
 }
 
 /// `DIMENSION NATURAL`: the member that is called so.
@@ -156,7 +156,7 @@ fn member<H: Reads>(
         dim: dim(name)?,
         natural: &natural,
     };
-    told::<Member, MemberOf<'_>, H>(alloc, held, &question, out)
+    asked::<Member, MemberOf<'_>, H>(alloc, held, &question, out)
 }
 
 /// Texts that are parted by commas.
@@ -176,7 +176,7 @@ fn profile<H: Reads>(
     out: &mut String,
 ) -> Result<(), Trouble> {
     let values = values(alloc, line)?;
-    told::<Profile, ProfileOf<'_>, H>(alloc, held, &ProfileOf { values: &values }, out)
+    asked::<Profile, ProfileOf<'_>, H>(alloc, held, &ProfileOf { values: &values }, out)
 }
 
 /// `DIMENSION DURABLE`: the records of a member.
@@ -191,5 +191,5 @@ fn records<H: Reads>(
         dim: dim(name)?,
         durable: number(durable)?,
     };
-    told::<Change, RecordsOf, H>(alloc, held, &question, out)
+    asked::<Change, RecordsOf, H>(alloc, held, &question, out)
 }

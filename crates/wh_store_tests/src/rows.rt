@@ -2,7 +2,7 @@
 //! columns.
 
 use crate::held::{Reads, Writes};
-use crate::told::Told;
+use crate::shown::Shown;
 use crate::trouble::Trouble;
 use crate::words::{Step, line_number, number, push_answer, push_count};
 use sqlite::{Connection, Row};
@@ -24,7 +24,7 @@ pub fn columns_of(alloc: Global, values: &str) -> Result<Row, Trouble> {
 }
 
 /// The row of these values.
-pub fn row_of<T: Told>(alloc: Global, values: &str) -> Result<T::Row, Trouble> {
+pub fn row_of<T: Shown>(alloc: Global, values: &str) -> Result<T::Row, Trouble> {
     match T::read(alloc, &columns_of(alloc, values)?) {
         Ok(row) => Ok(row),
         Err(ParseError::Memory) => Err(Trouble::Refused(Cause::Memory)),
@@ -52,7 +52,7 @@ fn push_header(out: &mut String, table: Table) -> Result<(), AllocError> {
     out.push_str("\n")
 }
 
-fn push_values<T: Told>(out: &mut String, row: &T::Row) -> Result<(), Trouble> {
+fn push_values<T: Shown>(out: &mut String, row: &T::Row) -> Result<(), Trouble> {
     out.push_str(T::table().name())?;
     out.push_str(" ")?;
     T::push(out, row)?;
@@ -61,13 +61,13 @@ fn push_values<T: Told>(out: &mut String, row: &T::Row) -> Result<(), Trouble> {
 }
 
 /// A row below its columns' names.
-fn push_row<T: Told>(out: &mut String, row: &T::Row) -> Result<(), Trouble> {
+fn push_row<T: Shown>(out: &mut String, row: &T::Row) -> Result<(), Trouble> {
     push_header(out, T::table())?;
     push_values::<T>(out, row)
 }
 
 /// Rows below their columns' names, and nothing where there is none.
-pub fn push_rows<T: Told>(out: &mut String, rows: &[T::Row]) -> Result<(), Trouble> {
+pub fn push_rows<T: Shown>(out: &mut String, rows: &[T::Row]) -> Result<(), Trouble> {
     if rows.is_empty() {
         return Ok(());
     }
@@ -84,12 +84,12 @@ pub fn push_number_line(out: &mut String, count: u64) -> Result<(), Trouble> {
     Ok(())
 }
 
-fn all<T: Told, H: Reads>(alloc: Global, held: &mut H, out: &mut String) -> Result<(), Trouble> {
+fn all<T: Shown, H: Reads>(alloc: Global, held: &mut H, out: &mut String) -> Result<(), Trouble> {
     let rows = held.read_all::<T>(alloc)?;
     push_rows::<T>(out, &rows)
 }
 
-fn nth<T: Told, H: Reads>(
+fn nth<T: Shown, H: Reads>(
     alloc: Global,
     held: &mut H,
     place: &str,
@@ -103,7 +103,7 @@ fn nth<T: Told, H: Reads>(
     }
 }
 
-fn at<T: Told, H: Reads>(
+fn at<T: Shown, H: Reads>(
     alloc: Global,
     held: &mut H,
     words: &str,
@@ -116,17 +116,21 @@ fn at<T: Told, H: Reads>(
     }
 }
 
-fn length<T: Told, H: Reads>(alloc: Global, held: &mut H, out: &mut String) -> Result<(), Trouble> {
+fn length<T: Shown, H: Reads>(
+    alloc: Global,
+    held: &mut H,
+    out: &mut String,
+) -> Result<(), Trouble> {
     let rows = held.read_all::<T>(alloc)?;
     push_number_line(out, rows.len() as u64)
 }
 
-fn read<T: Told>(alloc: Global, values: &str, out: &mut String) -> Result<(), Trouble> {
+fn read<T: Shown>(alloc: Global, values: &str, out: &mut String) -> Result<(), Trouble> {
     let row = row_of::<T>(alloc, values)?;
     push_row::<T>(out, &row)
 }
 
-fn on_rows<T: Told, H: Reads>(
+fn on_rows<T: Shown, H: Reads>(
     alloc: Global,
     held: &mut H,
     step: Step<'_>,
@@ -177,12 +181,12 @@ pub fn table_of(step: Step<'_>) -> Result<(Table, Step<'_>), Trouble> {
     }
 }
 
-fn put<T: Told, W: Writes>(alloc: Global, writes: &mut W, values: &str) -> Result<(), Trouble> {
+fn put<T: Shown, W: Writes>(alloc: Global, writes: &mut W, values: &str) -> Result<(), Trouble> {
     let row = row_of::<T>(alloc, values)?;
     Ok(writes.put_row::<T>(alloc, &row)?)
 }
 
-fn put_member<T: Told, W: Writes>(
+fn put_member<T: Shown, W: Writes>(
     alloc: Global,
     writes: &mut W,
     words: &str,
@@ -191,12 +195,12 @@ fn put_member<T: Told, W: Writes>(
     put::<T, W>(alloc, writes, values.as_str())
 }
 
-fn remove<T: Told, W: Writes>(alloc: Global, writes: &mut W, words: &str) -> Result<(), Trouble> {
+fn remove<T: Shown, W: Writes>(alloc: Global, writes: &mut W, words: &str) -> Result<(), Trouble> {
     let key = T::key_of(alloc, words)?;
     Ok(writes.remove_row::<T>(alloc, &key)?)
 }
 
-fn edit_rows<T: Told, W: Writes>(
+fn edit_rows<T: Shown, W: Writes>(
     alloc: Global,
     writes: &mut W,
     step: Step<'_>,

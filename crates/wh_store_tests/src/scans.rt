@@ -2,7 +2,7 @@
 
 use crate::held::Warehouse;
 use crate::rows::{push_number_line, push_rows, table_of};
-use crate::told::Told;
+use crate::shown::Shown;
 use crate::trouble::Trouble;
 use crate::words::{Step, number, push_answer};
 use sqlite::Alter;
@@ -14,7 +14,7 @@ use wh_rows::tables::{
 use wh_store::{PagedTable, Scan};
 
 /// Hands out up to so many rows.
-fn hand_out<T: Told + PagedTable, S: Alter>(
+fn hand_out<T: Shown + PagedTable, S: Alter>(
     alloc: Global,
     scan: &mut Scan<'_, S, T>,
     most: u64,
@@ -29,13 +29,13 @@ fn hand_out<T: Told + PagedTable, S: Alter>(
     Ok(())
 }
 
-fn push_last<T: Told>(out: &mut String, rows: &[T::Row]) -> Result<(), Trouble> {
+fn push_last<T: Shown>(out: &mut String, rows: &[T::Row]) -> Result<(), Trouble> {
     let before = rows.len().saturating_sub(1);
     push_rows::<T>(out, &rows[before..])
 }
 
 /// Tells of a scan that answered a fault if it answers otherwise than `None` from then on.
-fn tell_more<T: Told + PagedTable, S: Alter>(
+fn tell_more<T: Shown + PagedTable, S: Alter>(
     alloc: Global,
     scan: &mut Scan<'_, S, T>,
     out: &mut String,
@@ -47,7 +47,7 @@ fn tell_more<T: Told + PagedTable, S: Alter>(
 }
 
 /// `MOST`: up to so many rows, of which it tells the number and the last one.
-fn scan<T: Told + PagedTable, S: Alter>(
+fn scan<T: Shown + PagedTable, S: Alter>(
     alloc: Global,
     held: &mut Warehouse<S>,
     words: &str,

@@ -51,13 +51,13 @@ fn the_next_run_finds_what_was_committed(rt: HostRuntime) -> Result<(), Fail> {
 
 #[test]
 fn a_path_is_opened_again(rt: HostRuntime) -> Result<(), Fail> {
-    let told = at_path(
+    let shown = at_path(
         &rt,
         "row store 1 Leeds\ncommit",
         "show\nget store 1\ncount store",
     );
-    let told = told.ok().ok_or("a path")?;
-    assert!(rt; told.as_str() == files::AT_PATH, "{told}");
+    let shown = shown.ok().ok_or("a path")?;
+    assert!(rt; shown.as_str() == files::AT_PATH, "{shown}");
     Ok(())
 }
 

@@ -38,7 +38,7 @@ fn carry<S: Alter>(
 pub fn upgrade_all<S: Alter>(alloc: Global, held: &mut Warehouse<S>) -> Result<(), Trouble> {
     let facts = held.tables.all::<tables::Fact>(alloc)?;
     let mut writing = held.tables.begin()?;
-    writing.add_second()?;
+    writing.add_format2_tables()?;
     put_format(alloc, &mut writing)?;
     carry(alloc, &mut writing, facts)?;
     writing.commit()?;

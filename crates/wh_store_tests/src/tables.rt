@@ -52,7 +52,7 @@ fn format<S: Alter>(held: &mut Warehouse<S>, out: &mut String) -> Result<(), Tro
 /// Makes the second format, without a fact in it, and keeps it.
 fn add_second<S: Alter>(held: &mut Warehouse<S>) -> Result<(), Trouble> {
     let mut writing = held.tables.begin()?;
-    writing.add_second()?;
+    writing.add_format2_tables()?;
     writing.commit()?;
     held.format = Format::Two;
     Ok(())

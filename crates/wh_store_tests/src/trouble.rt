@@ -5,7 +5,7 @@ use std::alloc::{AllocError, AllocFailed};
 use std::io;
 use wh_rows::{Cause, Table};
 use wh_sql::ReadFault;
-use wh_store::{MakeFault, OpenFault};
+use wh_store::{NotFree, OpenFault};
 
 /// Why a step was not made.
 #[derive(Clone, Copy, Debug, PartialEq, Eq, Drop)]
@@ -15,7 +15,7 @@ pub enum Trouble {
     /// A stored value of this table is out of its type.
     Damaged(Table),
     /// No new warehouse is taken here.
-    Unmade(MakeFault),
+    Unmade(NotFree),
     /// No warehouse is found here.
     Unopened(OpenFault),
     /// No warehouse may have such limits.
@@ -70,8 +70,8 @@ impl Trouble {
         match self {
             Trouble::Refused(cause) => ("refused ", word_of_cause(cause)),
             Trouble::Damaged(table) => ("damaged ", table.name()),
-            Trouble::Unmade(MakeFault::NotEmpty) => ("not empty", ""),
-            Trouble::Unmade(MakeFault::Store(cause)) => ("refused ", word_of_cause(cause)),
+            Trouble::Unmade(NotFree::NotEmpty) => ("not empty", ""),
+            Trouble::Unmade(NotFree::Store(cause)) => ("refused ", word_of_cause(cause)),
             Trouble::Unopened(fault) => words_of_opening(fault),
             Trouble::NoLimits => ("no limits", ""),
             Trouble::Unknown => ("no such step", ""),

@@ -103,7 +103,7 @@ fn make_edit<S: Alter>(
 
 fn make<S: Alter>(alloc: Global, writing: &mut Writing<'_, S>, words: &str) -> Result<(), Trouble> {
     let limits = limits_of(words)?;
-    Ok(writing.make(alloc, limits)?)
+    Ok(writing.init(alloc, limits)?)
 }
 
 /// Puts a product at a surrogate key that no row can have, which is refused.

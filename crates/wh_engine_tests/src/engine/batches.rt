@@ -43,7 +43,7 @@ fn header_of(kind: &str) -> &'static str {
 }
 
 /// The command of a line of these.
-fn told(alloc: Global, line: &str) -> Result<Command, Trouble> {
+fn worked_command(alloc: Global, line: &str) -> Result<Command, Trouble> {
     let (id, rest) = parted(line, ' ');
     let (kind, records) = parted(rest, ' ');
     let records = records.replace(alloc, "|", "\n")?;
@@ -59,7 +59,7 @@ fn is_of(line: &str, id: &str) -> bool {
 /// The worked command of this id.
 pub fn worked(alloc: Global, id: &str) -> Result<Command, Trouble> {
     match WORKED.lines().find(|line| is_of(line, id)) {
-        Some(line) => told(alloc, line),
+        Some(line) => worked_command(alloc, line),
         None => Err(Trouble),
     }
 }
@@ -89,7 +89,7 @@ fn load_once<S: Alter>(
     line: &str,
     out: &mut String,
 ) -> Result<(), Trouble> {
-    let command = told(alloc, line)?;
+    let command = worked_command(alloc, line)?;
     let mut answer = String::new(alloc);
     push_applied(alloc, engine, &command, &mut answer)?;
     if !answer.starts_with("accepted ") {

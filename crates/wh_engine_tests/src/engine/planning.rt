@@ -16,7 +16,7 @@ use sqlite::{Connection, MemStore};
 use sqlite_value::value::Bytes;
 use std::alloc::{AllocError, Global};
 use wh_day::{Day, NaturalKey, Value, Values};
-use wh_engine::{write_edits, write_making};
+use wh_engine::{write_edits, write_init};
 use wh_history::{Change, Changes, DimensionShape, Edit, Member, Profiles};
 use wh_plan::new_rows::{new_change_rows, new_member_rows};
 use wh_plan::reading::{command_with, last_member, stored_changes, stored_member, stored_rows};
@@ -32,14 +32,14 @@ type InMemory = Tables<MemStore>;
 fn make(alloc: Global, tables: &mut InMemory, policy: &Policy) -> Result<u64, Cause> {
     let mut writing = tables.begin()?;
     let bytes = b"first_year = 2023";
-    write_making(&mut writing, alloc, Limits::greatest(), policy, bytes)?;
+    write_init(&mut writing, alloc, Limits::greatest(), policy, bytes)?;
     writing.commit()
 }
 
 /// The tables of a warehouse under the policy of a trial.
 pub fn trial(alloc: Global) -> Result<InMemory, Trouble> {
     let conn = Connection::open_in_memory(alloc)?;
-    match Tables::make(conn) {
+    match Tables::for_init(conn) {
         Ok(mut tables) => {
             make(alloc, &mut tables, &Policy::trial(alloc)?)?;
             Ok(tables)

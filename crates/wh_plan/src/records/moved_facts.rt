@@ -6,7 +6,7 @@ ghost use Rattle.wh_history.specs.Facts.{rekeyed_fact};
 ghost use Rattle.wh_history.specs.Shapes.{shape_of, shown};
 ghost use Rattle.wh_rows.specs.Questions.{durable_of};
 ghost use Rattle.wh_plan.specs.MovedFacts.{pair_of};
-ghost use Rattle.wh_plan.specs.OnePass.{first_moving, moved_fact, mover, moving_of, on_day, owner_in, seen, with_first};
+ghost use Rattle.wh_plan.specs.OnePass.{first_moving, moved_fact, mover, moving_of, on_day, owner_in, seen, first_with};
 ghost use Rattle.wh_plan.specs.RecordPlan.{MovesFacts};
 ghost use Rattle.wh_store.specs.Reads.{ReadsOnly, state_of};
 ghost use Rattle.wh_plan.specs.Reads.{Finds};
@@ -111,8 +111,8 @@ fn moving_members<'a>(
 }
 
 /// The first day of which a fact can move, with one more touched member.
-fn with_first(first: Option<Day>, touched: &TouchedMember) -> Option<Day>
-    ensures { result ≡ with_first (pair_of touched.now) first }
+fn first_with(first: Option<Day>, touched: &TouchedMember) -> Option<Day>
+    ensures { result ≡ first_with (pair_of touched.now) first }
 {
     if touched.stored.durable == 0 {
         return first;
@@ -132,7 +132,7 @@ fn first_moving(touched: &[TouchedMember]) -> Option<Day>
     let mut left = touched.len();
     while left > 0 {
         left -= 1;
-        first = with_first(first, &touched[left]);
+        first = first_with(first, &touched[left]);
     }
     first
 }

@@ -147,7 +147,7 @@ pub(crate) struct BatchPlan<'a> {
     pub(crate) facts: Vec<Fact>,
 }
 
-/// What a batch brings, by the members as they are after it, and what was read and planned for it.
+/// The rows that a batch of records brings, from what was read and planned for it and its members as they are after it.
 fn rows_of_batch(
     alloc: Global,
     command: CommandRow,

@@ -25,7 +25,7 @@ use wh_policy::{Dim, SaleRecord};
 use wh_rows::CommandRow;
 use wh_store::{ReadFault, Tables};
 
-/// What a batch of sales brings, by what they have of the three dimensions.
+/// The rows that a batch of sales brings, from its keys, members and rows of each of the three dimensions.
 fn rows_of_sales(
     alloc: Global,
     command: CommandRow,

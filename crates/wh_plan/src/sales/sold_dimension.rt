@@ -86,7 +86,7 @@ fn placeholders(
     Ok(edits)
 }
 
-/// What a batch of sales has of one dimension.
+/// What a batch of sales needs of one dimension: the keys of each sale, and the members and rows that it is the first to bring.
 #[derive(Drop)]
 pub(crate) struct SoldDimension {
     /// What each sale's member gives its fact.

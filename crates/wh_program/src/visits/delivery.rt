@@ -14,7 +14,7 @@ ghost use Rattle.wh_program.specs.Reply.{sent_answer};
 ghost use Rattle.wh_program.specs.Room.{longest_answer, longest_reply};
 ghost use Rattle.wh_program.specs.Run.{GoesOut, Prints};
 ghost use Rattle.wh_program.specs.Standing.{DatabaseContent, IsAt, Rests, Standing, Stands};
-ghost use Rattle.wh_program.specs.Warehouse.{Told, PrintsAnswer, RepliesOver, printed, PrintsShut, IsNoFile, IsNoFileOr};
+ghost use Rattle.wh_program.specs.Warehouse.{Shown, PrintsAnswer, RepliesOver, printed, PrintsShut, IsNoFile, IsNoFileOr};
 ghost use Rattle.wh_program.specs.Tasks.{SparesOthers};
 
 use crate::host::{Host, HostError, Visitor, manifest_file_of};
@@ -78,10 +78,10 @@ fn send_each<S: Alter, W: Write>(
     out: &mut W,
 ) -> Status
     requires { longest_reply commands.now ≤ vec_capacity room }
-    ensures delivered { (cut : Option ℕ) × (told : Told) × GoesOut cut (W.contents out.old) (W.contents out.new) (status_code result) (printed told)
-        × WhenReady S.Store engine.old engine.new (λ limits accepted session s. (after : Standing) × Delivers cut commands.now limits accepted told after × Stands after s)
+    ensures delivered { (cut : Option ℕ) × (shown : Shown) × GoesOut cut (W.contents out.old) (W.contents out.new) (status_code result) (printed shown)
+        × WhenReady S.Store engine.old engine.new (λ limits accepted session s. (after : Standing) × Delivers cut commands.now limits accepted shown after × Stands after s)
         × (HasCleanDisk (state_of S.Store engine.new.tables) → (content : DatabaseContent) → IsAt content (state_of S.Store engine.old.tables)
-        → (after : Standing) × IsDeliveredOver commands.now content told after × Stands after (state_of S.Store engine.new.tables)) }
+        → (after : Standing) × IsDeliveredOver commands.now content shown after × Stands after (state_of S.Store engine.new.tables)) }
     ensures clean { HasCleanDisk (state_of S.Store engine.new.tables) → HasCleanDisk (state_of S.Store engine.old.tables) }
 {
     let mut status = Status::Done;
@@ -107,7 +107,7 @@ struct Delivering {
 impl Visitor for Delivering {
     type Output = Status;
 
-    ghost promises = { λ delivering content status old new after. PrintsAnswer (λ cut told. DeliversTo cut delivering.commands.items content told after) old new (status_code status) };
+    ghost promises = { λ delivering content status old new after. PrintsAnswer (λ cut shown. DeliversTo cut delivering.commands.items content shown after) old new (status_code status) };
 
     fn visit<T: Alter + Drop, W: Write>(
         self,
@@ -166,7 +166,7 @@ fn deliver_commands<H: Host, W: Write>(
     ensures answers { (content : DatabaseContent) → H.stores host.old file.now (Rests content)
         → PrintsAnswer (λ cut. AnswersSent (H.refuses host.old) (H.stores host.new file.now) cut content file.now commands.items) (W.contents out.old) (W.contents out.new) (status_code result) }
     ensures others { SparesOthers (H.stores host.old) (H.stores host.new) (Some file.now) }
-    ensures shut { H.shut host.old file.now → PrintsShut (host.new ≡ host.old) (IsNoFile file.now) (λ told. Prints (W.contents out.old) (W.contents out.new) (status_code result) (printed told)) }
+    ensures shut { H.shut host.old file.now → PrintsShut (host.new ≡ host.old) (IsNoFile file.now) (λ shown. Prints (W.contents out.old) (W.contents out.new) (status_code result) (printed shown)) }
 {
     let Ok(room) = room_for_delivery(alloc, &commands) else {
         return print_answer(out, Err(AllocError));
@@ -189,7 +189,7 @@ fn deliver_entries<H: Host, W: Write>(
     ensures answers { (content : DatabaseContent) → H.stores host.old file.now (Rests content)
         → PrintsAnswer (λ cut. AnswersListed (H.holds host.old) (H.refuses host.old) (H.stores host.new file.now) cut content file.now entries.now) (W.contents out.old) (W.contents out.new) (status_code result) }
     ensures others { SparesOthers (H.stores host.old) (H.stores host.new) (Some file.now) }
-    ensures shut { H.shut host.old file.now → PrintsShut (host.new ≡ host.old) (IsNoFileOr file.now (LacksEntry (H.holds host.old) entries.now)) (λ told. Prints (W.contents out.old) (W.contents out.new) (status_code result) (printed told)) }
+    ensures shut { H.shut host.old file.now → PrintsShut (host.new ≡ host.old) (IsNoFileOr file.now (LacksEntry (H.holds host.old) entries.now)) (λ shown. Prints (W.contents out.old) (W.contents out.new) (status_code result) (printed shown)) }
 {
     match commands_of(alloc, entries, host) {
         Ok(commands) => deliver_commands(alloc, file, commands, host, out),
@@ -209,7 +209,7 @@ fn deliver_listed<H: Host, W: Write>(
     ensures answers { (content : DatabaseContent) → H.stores host.old file.now (Rests content)
         → PrintsAnswer (λ cut. AnswersRead (H.holds host.old) (H.refuses host.old) (H.stores host.new file.now) cut content file.now (manifest_of text.now)) (W.contents out.old) (W.contents out.new) (status_code result) }
     ensures others { SparesOthers (H.stores host.old) (H.stores host.new) (Some file.now) }
-    ensures shut { H.shut host.old file.now → PrintsShut (host.new ≡ host.old) (IsNoFileOr file.now (LacksListed (H.holds host.old) (manifest_of text.now))) (λ told. Prints (W.contents out.old) (W.contents out.new) (status_code result) (printed told)) }
+    ensures shut { H.shut host.old file.now → PrintsShut (host.new ≡ host.old) (IsNoFileOr file.now (LacksListed (H.holds host.old) (manifest_of text.now))) (λ shown. Prints (W.contents out.old) (W.contents out.new) (status_code result) (printed shown)) }
 {
     match Manifest::read(alloc, text) {
         Ok(listed) => deliver_entries(alloc, file, listed.as_slice(), host, out),
@@ -230,7 +230,7 @@ pub fn deliver<H: Host, W: Write>(
     ensures answers { (content : DatabaseContent) → H.stores host.old file.now (Rests content)
         → PrintsAnswer (λ cut. AnswersDelivery (H.holds host.old) (H.refuses host.old) (H.stores host.new file.now) cut content file.now manifest.now) (W.contents out.old) (W.contents out.new) (status_code result) }
     ensures others { SparesOthers (H.stores host.old) (H.stores host.new) (Some file.now) }
-    ensures shut { H.shut host.old file.now → PrintsShut (host.new ≡ host.old) (IsNoFileOr file.now (LacksManifest (H.holds host.old) manifest.now)) (λ told. Prints (W.contents out.old) (W.contents out.new) (status_code result) (printed told)) }
+    ensures shut { H.shut host.old file.now → PrintsShut (host.new ≡ host.old) (IsNoFileOr file.now (LacksManifest (H.holds host.old) manifest.now)) (λ shown. Prints (W.contents out.old) (W.contents out.new) (status_code result) (printed shown)) }
 {
     match manifest_file_of(alloc, manifest, host) {
         Ok(Some(text)) => deliver_listed(alloc, file, &text, host, out),

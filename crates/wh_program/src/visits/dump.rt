@@ -10,7 +10,7 @@ ghost use Rattle.wh_program.specs.Answer.{status_code};
 ghost use Rattle.wh_program.specs.Readings.{SaysStop, IsDumped, AnswersDump};
 ghost use Rattle.wh_program.specs.Run.{Prints};
 ghost use Rattle.wh_program.specs.Standing.{DatabaseContent, IsOfCommands, Standing, Rests, Stands, LeavesIt};
-ghost use Rattle.wh_program.specs.Warehouse.{Told, Shows, printed, PrintsShut, IsNoFile};
+ghost use Rattle.wh_program.specs.Warehouse.{Shown, Shows, printed, PrintsShut, IsNoFile};
 ghost use Rattle.wh_program.specs.Tasks.{LeavesWhatStands, SparesOthers};
 ghost use Rattle.wh_program.specs.Looking.{Looks};
 
@@ -46,7 +46,7 @@ fn print_table<S: Alter, W: Write>(
 ) -> Status
     ensures looks { Looks S.Store engine.old engine.new }
     ensures dumped { HasCleanDisk (state_of S.Store engine.new.tables) → (limits : Limits) (commands : List Accepted) → IsReady limits commands engine.old.session (state_of S.Store engine.old.tables)
-        → (after : Standing) × ((told : Told) × IsDumped table limits commands told after × Prints (W.contents out.old) (W.contents out.new) (status_code result) (printed told)) × Stands after (state_of S.Store engine.new.tables) }
+        → (after : Standing) × ((shown : Shown) × IsDumped table limits commands shown after × Prints (W.contents out.old) (W.contents out.new) (status_code result) (printed shown)) × Stands after (state_of S.Store engine.new.tables) }
 {
     match dump(alloc, engine, table, out) {
         Ok(()) => Status::Done,
@@ -63,7 +63,7 @@ struct Dumping {
 impl Visitor for Dumping {
     type Output = Status;
 
-    ghost promises = { λ dumping content status old new after. (IsOfCommands content → (told : Told) × Shows (IsDumped dumping.table) content told after × Prints old new (status_code status) (printed told)) × LeavesIt content after };
+    ghost promises = { λ dumping content status old new after. (IsOfCommands content → (shown : Shown) × Shows (IsDumped dumping.table) content shown after × Prints old new (status_code status) (printed shown)) × LeavesIt content after };
 
     fn visit<T: Alter + Drop, W: Write>(
         self,
@@ -94,10 +94,10 @@ pub fn print_dump<H: Host, W: Write>(
     out: &mut W,
 ) -> Status
     ensures answers { (content : DatabaseContent) → IsOfCommands content → H.stores host.old file.now (Rests content)
-        → (told : Told) × AnswersDump (H.refuses host.old) (H.stores host.new file.now) content file.now table told × Prints (W.contents out.old) (W.contents out.new) (status_code result) (printed told) }
+        → (shown : Shown) × AnswersDump (H.refuses host.old) (H.stores host.new file.now) content file.now table shown × Prints (W.contents out.old) (W.contents out.new) (status_code result) (printed shown) }
     ensures leaves { LeavesWhatStands (H.stores host.old) (H.stores host.new) file.now }
     ensures others { SparesOthers (H.stores host.old) (H.stores host.new) (Some file.now) }
-    ensures shut { H.shut host.old file.now → PrintsShut (host.new ≡ host.old) (IsNoFile file.now) (λ told. Prints (W.contents out.old) (W.contents out.new) (status_code result) (printed told)) }
+    ensures shut { H.shut host.old file.now → PrintsShut (host.new ≡ host.old) (IsNoFile file.now) (λ shown. Prints (W.contents out.old) (W.contents out.new) (status_code result) (printed shown)) }
 {
     match host.with_existing(alloc, file, Dumping { table }, out) {
         Ok(status) => status,

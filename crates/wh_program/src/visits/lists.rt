@@ -35,7 +35,7 @@ fn listed_answers<Q: Question, S: Alter>(
     listed: &[Q],
 ) -> Result<Vec<Answer>, AllocError>
     ensures looks { Looks S.Store engine.old engine.new }
-    ensures reported { WhenReady S.Store engine.old engine.new (λ limits commands. AreReadFor (map Q.answered listed.now) (λ answers. IfOk result (λ told. told.items ≡ answers)) limits commands) }
+    ensures reported { WhenReady S.Store engine.old engine.new (λ limits commands. AreReadFor (map Q.answered listed.now) (λ answers. IfOk result (λ shown. shown.items ≡ answers)) limits commands) }
 {
     let mut answers = Vec::with_capacity(alloc, listed.len())?;
     for question in listed {

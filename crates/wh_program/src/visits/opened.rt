@@ -7,7 +7,7 @@ ghost use Rattle.wh_history.specs.Tables.{Limits};
 ghost use Rattle.wh_engine.specs.Answered.{IsReady};
 ghost use Rattle.wh_store.specs.Reads.{state_of};
 ghost use Rattle.wh_program.specs.Standing.{DatabaseContent, IsAt, Rests, Standing, Stands};
-ghost use Rattle.wh_program.specs.Warehouse.{Told, LooksAt, Opens, AnswersWork, AnswersShut, IsNoFile};
+ghost use Rattle.wh_program.specs.Warehouse.{Shown, LooksAt, Opens, AnswersWork, AnswersShut, IsNoFile};
 ghost use Rattle.wh_program.specs.Tasks.{SparesOthers};
 
 use crate::host::{Host, Visitor};
@@ -23,10 +23,10 @@ use wh_engine::{Engine, OpenFault};
 /// What is done with a warehouse that is open, and answered.
 pub trait Work: Drop {
     /// Of these accepted commands, what is answered, and what then stands.
-    ghost does: { Self → Limits → List Accepted → Told → Standing → Type 0 };
+    ghost does: { Self → Limits → List Accepted → Shown → Standing → Type 0 };
 
     /// Of what anybody wrote, what is answered, and what then stands. Work that looks leaves it.
-    ghost over: { Self → DatabaseContent → Told → Standing → Type 0 } = { λ _. LooksAt };
+    ghost over: { Self → DatabaseContent → Shown → Standing → Type 0 } = { λ _. LooksAt };
 
     fn work<S: Alter>(self, alloc: Global, engine: &mut Engine<S>) -> Result<Answer, AllocError>
         ensures clean { HasCleanDisk (state_of S.Store engine.new.tables) → HasCleanDisk (state_of S.Store engine.old.tables) }
@@ -50,7 +50,7 @@ struct OnOpened<K: Work> {
 impl<K: Work> Visitor for OnOpened<K> {
     type Output = Result<Answer, AllocError>;
 
-    ghost promises = { λ visitor content told old new after. Opens (K.does visitor.work) (K.over visitor.work) content told after };
+    ghost promises = { λ visitor content shown old new after. Opens (K.does visitor.work) (K.over visitor.work) content shown after };
 
     fn visit<T: Alter + Drop, W: Write>(
         self,

@@ -25,7 +25,7 @@ struct Checking;
 impl Visitor for Checking {
     type Output = Result<Answer, AllocError>;
 
-    ghost promises = { λ _ content told old new after. Checks content told after };
+    ghost promises = { λ _ content shown old new after. Checks content shown after };
 
     fn visit<T: Alter + Drop, W: Write>(
         self,

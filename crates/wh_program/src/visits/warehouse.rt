@@ -41,7 +41,7 @@ struct Making {
 impl Visitor for Making {
     type Output = Result<Answer, AllocError>;
 
-    ghost promises = { λ making content told old new after. Makes making.policy.items content told after };
+    ghost promises = { λ making content shown old new after. Makes making.policy.items content shown after };
 
     fn visit<T: Alter + Drop, W: Write>(
         self,
@@ -73,9 +73,9 @@ struct Sending {
 
 impl Work for Sending {
     // Of one with room for that line.
-    ghost does = { λ sending limits commands told after. longest_answer sending.command.id ≤ vec_capacity sending.room → IsReplied sending.command limits commands told after };
+    ghost does = { λ sending limits commands shown after. longest_answer sending.command.id ≤ vec_capacity sending.room → IsReplied sending.command limits commands shown after };
 
-    ghost over = { λ sending content told after. longest_answer sending.command.id ≤ vec_capacity sending.room → IsRepliedOver sending.command content told after };
+    ghost over = { λ sending content shown after. longest_answer sending.command.id ≤ vec_capacity sending.room → IsRepliedOver sending.command content shown after };
 
     fn work<S: Alter>(self, alloc: Global, engine: &mut Engine<S>) -> Result<Answer, AllocError> {
         let reply = engine.apply(alloc, &self.command);
@@ -117,7 +117,7 @@ pub fn answered(
     file: &str,
     visit: Result<Result<Answer, AllocError>, HostError>,
 ) -> Result<Answer, AllocError>
-    ensures visited { IfOk visit (λ told. result ≡ told) }
+    ensures visited { IfOk visit (λ shown. result ≡ shown) }
     ensures not_visited { IfErr visit (λ e. IfOk result (λ answer. (e ≡ NoFile) × (answer ≡ failed (no_file_line file.now)))) }
 {
     match visit {

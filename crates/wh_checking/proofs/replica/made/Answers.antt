@@ -1,7 +1,7 @@
 use Rattle.std.proofs.Common.{[], ◌∷◌, sym, ap, subst, ◌∙◌}
 use Rattle.sqlite.specs.Files.{over_files}
 use Rattle.wh_policy.specs.Policy.{read_policy}
-use Rattle.wh_model.specs.Sound.{making_of}
+use Rattle.wh_model.specs.Sound.{init_of}
 use Rattle.wh_store.specs.Reads.{state_of}
 use Rattle.wh_engine.specs.Answered.{IsReady}
 use Rattle.wh_checking.proofs.Followed.{made_next, no_making, no_policy}
@@ -16,8 +16,8 @@ returns-in-Ok c =
     let policy = engine.session.policy in
     let fresh = c.in_ok-connection.ensures in
     let made = c.in-Ok.ensures.made (fresh.0 engine.tables.conn) fresh.1 in
-    let ready = subst (λ bytes. IsReady c.args.limits (making_of policy bytes ∷ []) engine.session (state_of over_files engine.tables)) c.as_slice.ensures made in
-    (making_of policy c.args.row.now.bytes, made_next c.args.limits c.args.row.now policy (sym c.is_making_row.ensures ∙ c.if-not-is_making_row.false) ready.admitted, (fresh.0, ready))
+    let ready = subst (λ bytes. IsReady c.args.limits (init_of policy bytes ∷ []) engine.session (state_of over_files engine.tables)) c.as_slice.ensures made in
+    (init_of policy c.args.row.now.bytes, made_next c.args.limits c.args.row.now policy (sym c.is_making_row.ensures ∙ c.if-not-is_making_row.false) ready.admitted, (fresh.0, ready))
 
 pub returns-in-Err-Policy-default : goal.returns-in-Err-Policy-default
 returns-in-Err-Policy-default c =

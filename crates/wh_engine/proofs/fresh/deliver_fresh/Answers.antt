@@ -2,7 +2,7 @@ use Rattle.std.proofs.Common.{◌≡◌, false, [], ◌∷◌, ap, ◌∙◌, sy
 use Rattle.sqlite.specs.Held.{state}
 use Rattle.sqlite.specs.State.{HasCleanDisk}
 use Rattle.sqlite.specs.Steps.{over_memory}
-use Rattle.wh_model.specs.Sound.{making_of}
+use Rattle.wh_model.specs.Sound.{init_of}
 use Rattle.wh_sql.proofs.Worked.{taken_in_none}
 use Rattle.wh_store.specs.Reads.{is_any_taken}
 use Rattle.wh_engine.specs.Delivered.{IsDelivered}
@@ -13,7 +13,7 @@ pub returns-in-Ok-init-clause-made : goal.returns-in-Ok-init-clause-made
 returns-in-Ok-init-clause-made c clean =
     let first = c.in-Ok-init.engine in
     let last = c.deliver-replies.new.self in
-    let commands = making_of first.session.policy c.args.policy.now ∷ [] in
+    let commands = init_of first.session.policy c.args.policy.now ∷ [] in
     let delivered = subst (λ conn. HasCleanDisk (state over_memory conn)) c.close.ensures clean in
     let ready = c.in-Ok-init.ensures.made (c.deliver-replies.ensures.keeps.clean delivered) c.in-Ok.ensures in
     record {

@@ -2,7 +2,7 @@ use Rattle.std.proofs.Common.{◌≡◌, ◌∙◌, subst, slice_get, Some, filt
 use Rattle.std.proofs.lemmas.Result.{err_from_is_err_and}
 use Rattle.std.specs.FinMap.{values}
 use Rattle.wh_store.specs.Reads.{state_of}
-use Rattle.wh_engine.specs.Opened.{of_command, last_policy_in, IsTold}
+use Rattle.wh_engine.specs.Opened.{of_command, last_policy_in, IsAsSaid}
 use Rattle.wh_rows.specs.Firsts.{last_one, part}
 use Rattle.wh_rows.specs.Questions.{gives_policy}
 use Rattle.wh_engine.proofs.OpenedTables.{read_of_told, rows_unread}
@@ -21,7 +21,7 @@ returns-clause-read g c clean t rests =
     let new = state_of g.S.Store c.ask.new.self in
     let rows : c.deref.result.now ≡ part (Some last_one) (filter (λ r. gives_policy r.kind) (values t.command)) = c.deref.ensures.value ∙ c.in_ok-last.ensures.rows clean t rests in
     read_of_told c.policy_of.result (of_command (last_policy_in t)) t new
-    (subst (λ rows. IsTold c.policy_of.result (of_command (slice_get rows 0))) rows c.policy_of.ensures.told) c.policy_of.ensures.pure (tables_again c.in_ok-last.ensures.reads.spares clean t rests tt)
+    (subst (λ rows. IsAsSaid c.policy_of.result (of_command (slice_get rows 0))) rows c.policy_of.ensures.said) c.policy_of.ensures.pure (tables_again c.in_ok-last.ensures.reads.spares clean t rests tt)
 
 -- ---- of any stored rows
 
@@ -37,8 +37,8 @@ returns-in_err-last-clause-policyless g c clean stored at =
 
 pub returns-clause-stored : goal.returns-clause-stored
 returns-clause-stored g c clean stored at =
-    policy_said stored c.in_ok-last.last.items c.policy_of.result (c.in_ok-last.ensures.stored clean stored at) (rw c.deref.ensures.value at c.policy_of.ensures.told)
+    policy_said stored c.in_ok-last.last.items c.policy_of.result (c.in_ok-last.ensures.stored clean stored at) (rw c.deref.ensures.value at c.policy_of.ensures.said)
 
 pub returns-clause-policyless : goal.returns-clause-policyless
 returns-clause-policyless g c clean stored at =
-    no_policy stored c.in_ok-last.last.items c.policy_of.result (c.in_ok-last.ensures.stored clean stored at) (rw c.deref.ensures.value at c.policy_of.ensures.told)
+    no_policy stored c.in_ok-last.last.items c.policy_of.result (c.in_ok-last.ensures.stored clean stored at) (rw c.deref.ensures.value at c.policy_of.ensures.said)

@@ -3,7 +3,7 @@ use Rattle.std.proofs.lemmas.List.{nil_from_length}
 use Rattle.std.specs.Slice.Iter.{chunks_rest}
 use Rattle.sqlite.specs.Held.{state}
 use Rattle.wh_rows.specs.AtRest.{IsWriting}
-use Rattle.wh_rows.specs.Tables.{Tables as TenTables}
+use Rattle.wh_rows.specs.Tables.{Tables as TypedTables}
 use Rattle.wh_plan.specs.Writable.{IsValidFactEdit}
 use Rattle.wh_engine.specs.Writing.{AreValidFactEdits, with_fact_edits}
 use Rattle.wh_engine.proofs.PutFacts.{put_none, parts_put}
@@ -61,7 +61,7 @@ loop-part-preserved g c =
           let was = kept.put (c.edit_facts_at_once.ensures.writes.clean clean) before made at may in
           let mid = was.0 in
           let parts = all_apart (IsValidFactEdit format) part rest (subst (AreValidFactEdits format) steps.1.0 was.2) in
-          let now : TenTables = with_fact_edits format part mid in
+          let now : TypedTables = with_fact_edits format part mid in
           let leads : with_fact_edits format (chunks_rest c.loop-part.part-iterator) mid ≡ with_fact_edits format rest now =
           ap (λ es. with_fact_edits format es mid) steps.1.0 ∙ parts_put format part rest mid in
           (now, c.in_ok-edit_facts_at_once.ensures.edited clean before mid was.1 parts.0, parts.1, sym leads ∙ was.3);

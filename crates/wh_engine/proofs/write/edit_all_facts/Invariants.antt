@@ -3,7 +3,7 @@ use Rattle.std.specs.Slice.Iter.{chunks_rest, chunks_size}
 use Rattle.sqlite.specs.Held.{state}
 use Rattle.sqlite.specs.State.{HasCleanDisk}
 use Rattle.wh_rows.specs.AtRest.{IsWriting}
-use Rattle.wh_rows.specs.Tables.{Tables as TenTables}
+use Rattle.wh_rows.specs.Tables.{Tables as TypedTables}
 use Rattle.wh_engine.specs.Writing.{AreValidFactEdits, with_fact_edits}
 use Rattle.wh_engine.proofs.write.edit_all_facts.Given as goal
 
@@ -20,7 +20,7 @@ invariant-loop-part g l =
       clean : HasCleanDisk now → HasCleanDisk old;
       counts : old.faults ≤ now.faults;
       counted : l.writing.writes + length rest ≡ l.fn.writing.writes + length l.edits;
-      put : HasCleanDisk now → (before : Option TenTables) (made : TenTables) → IsWriting before (Some made) old → AreValidFactEdits l.fn.format l.edits
-          → (mid : TenTables) × IsWriting before (Some mid) now × AreValidFactEdits l.fn.format rest
+      put : HasCleanDisk now → (before : Option TypedTables) (made : TypedTables) → IsWriting before (Some made) old → AreValidFactEdits l.fn.format l.edits
+          → (mid : TypedTables) × IsWriting before (Some mid) now × AreValidFactEdits l.fn.format rest
           × (with_fact_edits l.fn.format rest mid ≡ with_fact_edits l.fn.format l.edits made);
     }

@@ -21,7 +21,7 @@ returns-clause-learned g c clean limits commands t are at sent accepted is typed
     let kinds = policy_types policy Customer in
     let kept = number_kept t.profile in
     let before = c.in_ok-given.ensures.reads.spares.clean clean in
-    let told = c.in_ok-told.ensures ∙ ap (λ ks. with_combinations [] (told_of ks records)) typed.are in
+    let told = c.in_ok-brought.ensures ∙ ap (λ ks. with_combinations [] (told_of ks records)) typed.are in
     let all = c.deref.ensures.value ∙ c.in_ok-all.ensures ∙ ap (λ ks. with_combinations (with_combinations [] (told_of ks records)) (said_by ks members)) typed.are in
     let looked = c.in_ok-known.ensures.known before t at ∙ ap (learned kept) all in
     let still = tables_again c.in_ok-known.ensures.reads.spares before t at tt in

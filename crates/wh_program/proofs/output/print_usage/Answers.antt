@@ -7,5 +7,5 @@ use Rattle.wh_program.proofs.output.print_usage.Goals as goal
 pub returns : goal.returns
 returns g c =
     let cut = left_by_failure c.write_whole.result _ c.write_whole.ensures.beginning c.if-is_ok.ensures.value in
-    let said = c.write_failed.ensures.told in
-    inr (cut.0, record { told = said.0; cut = cut.1; status = c.code.ensures ∙ ap status_code c.write_failed.ensures.status; text = Appends-trans _ _ _ _ _ cut.2 said.1 })
+    let said = c.write_failed.ensures.shown in
+    inr (cut.0, record { shown = said.0; cut = cut.1; status = c.code.ensures ∙ ap status_code c.write_failed.ensures.status; text = Appends-trans _ _ _ _ _ cut.2 said.1 })

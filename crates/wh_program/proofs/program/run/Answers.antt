@@ -2,9 +2,9 @@ use Rattle.std.proofs.Common.{◌≡◌, ◌∙◌, refl, inl, inr, Err, Some, a
 use Rattle.wh_words.specs.Request.{IsReadAs}
 use Rattle.wh_program.specs.Run.{GoesOut, Prints, out_of_memory}
 use Rattle.wh_words.specs.Asked.{faults_in}
-use Rattle.wh_program.specs.Tasks.{IsToldBefore}
+use Rattle.wh_program.specs.Tasks.{IsAnsweredBefore}
 use Rattle.wh_words.specs.Task.{warehouse_of}
-use Rattle.wh_program.specs.Warehouse.{IsNoFileOr, PrintsShut, Told, printed}
+use Rattle.wh_program.specs.Warehouse.{IsNoFileOr, PrintsShut, Shown, printed}
 use Rattle.wh_program.proofs.RunLemmas.{is_no_usage, not_run, parted, shut_all, spares_all}
 use Rattle.wh_program.proofs.program.run.Goals as goal
 
@@ -21,8 +21,8 @@ returns-in-Ok-clause-wrong_words g c = λ line wrong says is.
 pub returns-in-Err-clause-runs : goal.returns-in-Err-clause-runs
 returns-in-Err-clause-runs g c = λ line task says is.
     not_run (g.H.Host.holds c.args.host.now) (g.H.Host.refuses c.args.host.now) (g.H.Host.stores c.args.host.now) (c.args.host.now ≡ c.args.host.now)
-    (λ told. Prints (g.W.Write.contents c.args.out.now) (g.W.Write.contents c.print.new.out) c.code.result (printed told))
-    (λ cut told. GoesOut cut (g.W.Write.contents c.args.out.now) (g.W.Write.contents c.print.new.out) c.code.result (printed told)) c.in-Err.field-0 task refl (rw (← c.code.ensures) at c.print.ensures)
+    (λ shown. Prints (g.W.Write.contents c.args.out.now) (g.W.Write.contents c.print.new.out) c.code.result (printed shown))
+    (λ cut shown. GoesOut cut (g.W.Write.contents c.args.out.now) (g.W.Write.contents c.print.new.out) c.code.result (printed shown)) c.in-Err.field-0 task refl (rw (← c.code.ensures) at c.print.ensures)
     (parted (g.W.Write.contents c.args.out.now) (g.W.Write.contents c.print.new.out) c.code.result out_of_memory (rw (← c.code.ensures) at c.print.ensures))
 
 pub returns-in-Err-clause-right_words : goal.returns-in-Err-clause-right_words
@@ -53,8 +53,8 @@ returns-in-Ok-clause-declines g c = λ is.
 pub returns-in-Err-clause-reads : goal.returns-in-Err-clause-reads
 returns-in-Err-clause-reads g c = λ task is. (
   not_run (g.H.Host.holds c.args.host.now) (g.H.Host.refuses c.args.host.now) (g.H.Host.stores c.args.host.now) (c.args.host.now ≡ c.args.host.now)
-      (λ told. Prints (g.W.Write.contents c.args.out.now) (g.W.Write.contents c.print.new.out) c.code.result (printed told))
-      (λ cut told. GoesOut cut (g.W.Write.contents c.args.out.now) (g.W.Write.contents c.print.new.out) c.code.result (printed told)) c.in-Err.field-0 task refl (rw (← c.code.ensures) at c.print.ensures)
+      (λ shown. Prints (g.W.Write.contents c.args.out.now) (g.W.Write.contents c.print.new.out) c.code.result (printed shown))
+      (λ cut shown. GoesOut cut (g.W.Write.contents c.args.out.now) (g.W.Write.contents c.print.new.out) c.code.result (printed shown)) c.in-Err.field-0 task refl (rw (← c.code.ensures) at c.print.ensures)
       (parted (g.W.Write.contents c.args.out.now) (g.W.Write.contents c.print.new.out) c.code.result out_of_memory (rw (← c.code.ensures) at c.print.ensures)),
   (λ e. is_no_usage c.print.result (sym c.code.ensures ∙ e)),
 )
@@ -64,8 +64,8 @@ returns-in-Err-clause-others g c = λ task is. spares_all (g.H.Host.stores c.arg
 
 pub returns-in-Err-clause-shut : goal.returns-in-Err-clause-shut
 returns-in-Err-clause-shut g c = λ task is.
-    let prints : Told → Type 0 = λ told. Prints (g.W.Write.contents c.args.out.now) (g.W.Write.contents c.print.new.out) c.code.result (printed told) in
-    shut_all (g.H.Host.shut c.args.host.now) (warehouse_of task) (λ file. PrintsShut (c.args.host.now ≡ c.args.host.now) (IsNoFileOr file (IsToldBefore (g.H.Host.holds c.args.host.now) task)) prints)
+    let prints : Shown → Type 0 = λ shown. Prints (g.W.Write.contents c.args.out.now) (g.W.Write.contents c.print.new.out) c.code.result (printed shown) in
+    shut_all (g.H.Host.shut c.args.host.now) (warehouse_of task) (λ file. PrintsShut (c.args.host.now ≡ c.args.host.now) (IsNoFileOr file (IsAnsweredBefore (g.H.Host.holds c.args.host.now) task)) prints)
     (λ file. (refl, (Err c.in-Err.field-0, tt, rw (← c.code.ensures) at c.print.ensures)))
 
 pub returns-in-Err-clause-declines : goal.returns-in-Err-clause-declines

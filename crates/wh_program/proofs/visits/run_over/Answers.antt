@@ -40,7 +40,7 @@ pub returns-in-Explain-clause-shut : goal.returns-in-Explain-clause-shut
 returns-in-Explain-clause-shut g c = rw c.in-Explain.is (λ shut. let is = c.explain.ensures.shut shut in (is.0, (c.explain.result, is.1, c.print_answer-in-Explain.ensures)))
 
 pub returns-in-ExplainInit-clause-shut : goal.returns-in-ExplainInit-clause-shut
-returns-in-ExplainInit-clause-shut g c = rw c.in-ExplainInit.is (λ shut. (refl, (c.explain_init.result, IfOk-weaker c.explain_init.result _ _ (λ a told. inr told) c.explain_init.ensures, c.print_answer-in-ExplainInit.ensures)))
+returns-in-ExplainInit-clause-shut g c = rw c.in-ExplainInit.is (λ shut. (refl, (c.explain_init.result, IfOk-weaker c.explain_init.result _ _ (λ a shown. inr shown) c.explain_init.ensures, c.print_answer-in-ExplainInit.ensures)))
 
 pub returns-in-Reports-clause-shut : goal.returns-in-Reports-clause-shut
 returns-in-Reports-clause-shut g c = rw c.in-Reports.is (λ shut. let is = c.reports.ensures.shut shut in (is.0, (c.reports.result, is.1, c.print_answer-in-Reports.ensures)))

@@ -26,4 +26,4 @@ pub returns-in-Ok-Some-clause-shut : goal.returns-in-Ok-Some-clause-shut
 returns-in-Ok-Some-clause-shut g c = λ shut.
     let held = rw c.in-Ok-Some.field-0-is at c.in-Ok-Some.ensures in
     shut_before c.args.file.now (LacksListed (g.H.Host.holds c.args.host.now) (manifest_of c.in-Ok-Some.text.items)) (LacksManifest (g.H.Host.holds c.args.host.now) c.args.manifest.now) (λ a is. inr (c.in-Ok-Some.text.items, held, is))
-    (c.deliver_listed.new.host ≡ c.args.host.now) (λ told. Prints (g.W.Write.contents c.args.out.now) (g.W.Write.contents c.deliver_listed.new.out) (status_code c.deliver_listed.result) (printed told)) (rw c.deref.ensures.value at (c.deliver_listed.ensures.shut shut))
+    (c.deliver_listed.new.host ≡ c.args.host.now) (λ shown. Prints (g.W.Write.contents c.args.out.now) (g.W.Write.contents c.deliver_listed.new.out) (status_code c.deliver_listed.result) (printed shown)) (rw c.deref.ensures.value at (c.deliver_listed.ensures.shut shut))

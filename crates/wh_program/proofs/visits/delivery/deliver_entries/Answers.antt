@@ -23,4 +23,4 @@ returns-in-Err-Memory-clause-answers g c = λ content stood.
 
 pub returns-in-Ok-clause-shut : goal.returns-in-Ok-clause-shut
 returns-in-Ok-clause-shut g c = λ shut.
-    prints_shut_or (c.deliver_commands.new.host ≡ c.args.host.now) c.args.file.now (LacksEntry (g.H.Host.holds c.args.host.now) c.args.entries.now) (λ told. Prints (g.W.Write.contents c.args.out.now) (g.W.Write.contents c.deliver_commands.new.out) (status_code c.deliver_commands.result) (printed told)) (c.deliver_commands.ensures.shut shut)
+    prints_shut_or (c.deliver_commands.new.host ≡ c.args.host.now) c.args.file.now (LacksEntry (g.H.Host.holds c.args.host.now) c.args.entries.now) (λ shown. Prints (g.W.Write.contents c.args.out.now) (g.W.Write.contents c.deliver_commands.new.out) (status_code c.deliver_commands.result) (printed shown)) (c.deliver_commands.ensures.shut shut)

@@ -34,15 +34,15 @@ loop-command-preserved g c =
     let old = g.W.Write.contents c.args.out.now in
     let mid = g.W.Write.contents c.loop-command.out in
     let new = g.W.Write.contents c.send_next.new.out in
-    let told = c.send_next.result in
+    let shown = c.send_next.result in
     let reply = c.send_next.ensures.sent in
     record {
       enough = le_trans c.loop-command.invariant.enough c.send_next.ensures.room;
       sent = elim c.match-send_next.branch [
         | in-Done w ↦ subst₂ (λ list ending. AreSent list first last s0 s2 old new ending) next (sym w.status-is)
-            (next_done (take i sent) command first at last s0 s1 s2 old mid new status told reply.0 c.loop-command.invariant.sent reply.1 c.send_next.ensures.clean reply.2 reply.3 w.in-Done.is)
+            (next_done (take i sent) command first at last s0 s1 s2 old mid new status shown reply.0 c.loop-command.invariant.sent reply.1 c.send_next.ensures.clean reply.2 reply.3 w.in-Done.is)
         | in-Refused w ↦ subst₂ (λ list ending. AreSent list first last s0 s2 old new ending) next (sym w.status-is)
-            (next_refused (take i sent) command first at last s0 s1 s2 old mid new status told reply.0 c.loop-command.invariant.sent reply.1 c.send_next.ensures.clean reply.2 reply.3 w.in-Refused.is)
+            (next_refused (take i sent) command first at last s0 s1 s2 old mid new status shown reply.0 c.loop-command.invariant.sent reply.1 c.send_next.ensures.clean reply.2 reply.3 w.in-Refused.is)
       ];
     }
 
@@ -58,10 +58,10 @@ returns-in-Failed-clause-delivered g c =
     let old = g.W.Write.contents c.args.out.now in
     let mid = g.W.Write.contents c.loop-command.out in
     let new = g.W.Write.contents c.send_next.new.out in
-    let told = c.send_next.result in
+    let shown = c.send_next.result in
     let reply = c.send_next.ensures.sent in
     subst₂ (λ list ending. IsOut list first s0 s2 old new (status_code ending)) (sym (parted_at sent i command c.loop-command-test.true c.command-item.is)) c.in-Failed.is
-    (ended_out (take i sent) command first c.loop-command.engine.session c.send_next.new.engine.session s0 s1 s2 old mid new c.loop-command.status told reply.0 c.loop-command.invariant.sent reply.1
+    (ended_out (take i sent) command first c.loop-command.engine.session c.send_next.new.engine.session s0 s1 s2 old mid new c.loop-command.status shown reply.0 c.loop-command.invariant.sent reply.1
     c.send_next.ensures.clean reply.2 reply.3 (drop (i + 1) sent) c.in-Failed.is)
 
 pub returns-clause-delivered : goal.returns-clause-delivered

@@ -1,5 +1,5 @@
 use Rattle.wh_program.specs.Inputs.{up_to, policy_limit}
-use Rattle.wh_program.proofs.WarehouseLemmas.{bad_answered, shut_or, told_before}
+use Rattle.wh_program.proofs.WarehouseLemmas.{bad_answered, shut_or, answered_before}
 use Rattle.std.proofs.Common.{◌≡◌, refl, inr}
 use Rattle.std.proofs.lemmas.Result.{IfOk-weaker}
 use Rattle.wh_program.specs.Warehouse.{LacksPolicy}
@@ -18,5 +18,5 @@ pub returns-in-Err-Fault-clause-shut : goal.returns-in-Err-Fault-clause-shut
 returns-in-Err-Fault-clause-shut g c = λ shut.
     let held = rw c.in-Some.is at c.in_ok-text.ensures in
     let bad = rw (c.in-Err-Fault.field-0-is, c.deref.ensures.value) at c.in-Err-Fault.ensures in
-    told_before (c.args.host.now ≡ c.args.host.now) c.args.file.now (LacksPolicy (up_to policy_limit (g.H.Host.holds c.args.host.now)) c.args.policy.now) c.bad_policy.result refl
+    answered_before (c.args.host.now ≡ c.args.host.now) c.args.file.now (LacksPolicy (up_to policy_limit (g.H.Host.holds c.args.host.now)) c.args.policy.now) c.bad_policy.result refl
     (IfOk-weaker c.bad_policy.result _ _ (λ a is. inr (c.in-Some.text.items, held, (c.in-Err-Fault.fault, bad, is))) c.bad_policy.ensures)

@@ -12,7 +12,7 @@ use Rattle.wh_program.proofs.visits.dump.DumpingVisitor.visit.Goals as goal
 
 pub returns-in-Ok : goal.returns-in-Ok
 returns-in-Ok g c = rw c.close.ensures (λ clean content at.
-    opened-printing (IsDumped c.args.self.table) (λ told. Prints (g.W.Write.contents c.args.out.now) (g.W.Write.contents c.print_table-status.new.out) (status_code c.print_table-status.result) (printed told))
+    opened-printing (IsDumped c.args.self.table) (λ shown. Prints (g.W.Write.contents c.args.out.now) (g.W.Write.contents c.print_table-status.new.out) (status_code c.print_table-status.result) (printed shown))
     content c.in-Ok.engine.session
     (state g.T.Store c.args.connection) (state g.T.Store c.in-Ok.engine.tables.conn) (state g.T.Store c.print_table-status.new.engine.tables.conn)
     (c.in-Ok.ensures.ready (c.print_table-status.ensures.looks.spares.clean clean))

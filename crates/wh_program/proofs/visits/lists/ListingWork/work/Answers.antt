@@ -16,7 +16,7 @@ returns-clause-done g c = λ clean limits commands ready.
 pub returns-in_err-answers-clause-done : goal.returns-in_err-answers-clause-done
 returns-in_err-answers-clause-done g c = λ clean limits commands ready.
     list_stands limits commands c.listed_answers.new.engine.session (state_of g.S.Store c.listed_answers.new.engine.tables) (map g.Q.Question.answered c.args.self.listed.now) c.from_residual.result _
-    (c.in_err-answers.ensures.reported clean limits commands ready) (λ all told. IfOk-from_err c.from_residual.result _ c.from_residual.ensures.0)
+    (c.in_err-answers.ensures.reported clean limits commands ready) (λ all shown. IfOk-from_err c.from_residual.result _ c.from_residual.ensures.0)
 
 pub returns-clause-over : goal.returns-clause-over
 returns-clause-over g c = looked c.listed_answers.ensures.looks

@@ -8,7 +8,7 @@ ghost use Rattle.wh_rows.specs.Schema.{schema_in};
 ghost use Rattle.wh_rows.specs.Inserting.{rows_at_once};
 ghost use Rattle.wh_rows.specs.Meaning.{Means, InsertsEach};
 
-use crate::scanned::PagedTable;
+use crate::paged_table::PagedTable;
 
 /// A table to which a command can write many new rows.
 pub trait BatchedTable: PagedTable {

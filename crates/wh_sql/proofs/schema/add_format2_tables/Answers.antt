@@ -4,7 +4,7 @@ use Rattle.wh_policy.specs.declared.format.Format.TheVariants.{One, Two}
 use Rattle.wh_rows.specs.Schema.{schema_in}
 use Rattle.wh_rows.proofs.Upgrading.{makes_second}
 use Rattle.wh_sql.proofs.Creating.{adding_none, added_all}
-use Rattle.wh_sql.proofs.schema.add_second.Goals as goal
+use Rattle.wh_sql.proofs.schema.add_format2_tables.Goals as goal
 
 pub returns-clause-made : goal.returns-clause-made
 returns-clause-made g c clean before t first at =

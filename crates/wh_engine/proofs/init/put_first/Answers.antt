@@ -1,5 +1,5 @@
 use Rattle.std.proofs.Common.{arith}
-use Rattle.wh_engine.proofs.making.put_first.Goals as goal
+use Rattle.wh_engine.proofs.init.put_first.Goals as goal
 
 pub returns-in_err-put-clause-writes : goal.returns-in_err-put-clause-writes
 returns-in_err-put-clause-writes g c = record {

@@ -4,7 +4,7 @@ use Rattle.sqlite.specs.Held.{state}
 use Rattle.wh_rows.specs.Schema.{no_schema, warehouse}
 use Rattle.wh_rows.proofs.Making.{makes_all}
 use Rattle.wh_sql.proofs.Creating.{making_none, made_all}
-use Rattle.wh_sql.proofs.schema.create.Goals as goal
+use Rattle.wh_sql.proofs.schema.create_tables.Goals as goal
 
 pub returns-clause-made : goal.returns-clause-made
 returns-clause-made g c clean at =

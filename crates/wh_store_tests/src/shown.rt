@@ -16,7 +16,7 @@ use wh_scenarios::parted;
 use wh_sql::KeyedTable;
 
 /// A table that a scenario tells of.
-pub trait Told: KeyedTable {
+pub trait Shown: KeyedTable {
     /// The key that these words say.
     fn key_of(alloc: Global, words: &str) -> Result<Self::Key, Trouble>;
 
@@ -24,7 +24,7 @@ pub trait Told: KeyedTable {
     fn push(out: &mut String, row: &Self::Row) -> Result<(), Trouble>;
 }
 
-impl Told for tables::Meta {
+impl Shown for tables::Meta {
     fn key_of(alloc: Global, words: &str) -> Result<Value, Trouble> {
         Ok(Value::new(alloc, words)?)
     }
@@ -35,7 +35,7 @@ impl Told for tables::Meta {
     }
 }
 
-impl Told for tables::Command {
+impl Shown for tables::Command {
     fn key_of(_alloc: Global, words: &str) -> Result<u64, Trouble> {
         number(words)
     }
@@ -50,7 +50,7 @@ impl Told for tables::Command {
     }
 }
 
-impl Told for tables::Member {
+impl Shown for tables::Member {
     fn key_of(_alloc: Global, words: &str) -> Result<MemberKey, Trouble> {
         let (word, durable) = parted(words, ' ');
         Ok(MemberKey {
@@ -67,7 +67,7 @@ impl Told for tables::Member {
     }
 }
 
-impl Told for tables::Change {
+impl Shown for tables::Change {
     fn key_of(_alloc: Global, words: &str) -> Result<ChangeKey, Trouble> {
         let (command, place) = parted(words, ' ');
         Ok(ChangeKey {
@@ -87,7 +87,7 @@ impl Told for tables::Change {
     }
 }
 
-impl Told for tables::Product {
+impl Shown for tables::Product {
     fn key_of(_alloc: Global, words: &str) -> Result<u64, Trouble> {
         number(words)
     }
@@ -97,7 +97,7 @@ impl Told for tables::Product {
     }
 }
 
-impl Told for tables::Store {
+impl Shown for tables::Store {
     fn key_of(_alloc: Global, words: &str) -> Result<u64, Trouble> {
         number(words)
     }
@@ -107,7 +107,7 @@ impl Told for tables::Store {
     }
 }
 
-impl Told for tables::Customer {
+impl Shown for tables::Customer {
     fn key_of(_alloc: Global, words: &str) -> Result<u64, Trouble> {
         number(words)
     }
@@ -117,7 +117,7 @@ impl Told for tables::Customer {
     }
 }
 
-impl Told for tables::Profile {
+impl Shown for tables::Profile {
     fn key_of(_alloc: Global, words: &str) -> Result<u64, Trouble> {
         number(words)
     }
@@ -128,7 +128,7 @@ impl Told for tables::Profile {
     }
 }
 
-impl Told for tables::Calendar {
+impl Shown for tables::Calendar {
     fn key_of(_alloc: Global, words: &str) -> Result<Day, Trouble> {
         day(words)
     }
@@ -143,7 +143,7 @@ impl Told for tables::Calendar {
     }
 }
 
-impl Told for tables::Fact {
+impl Shown for tables::Fact {
     fn key_of(alloc: Global, words: &str) -> Result<LineKey, Trouble> {
         line_key(alloc, words)
     }
@@ -153,7 +153,7 @@ impl Told for tables::Fact {
     }
 }
 
-impl Told for tables::Fact2 {
+impl Shown for tables::Fact2 {
     fn key_of(alloc: Global, words: &str) -> Result<LineKey, Trouble> {
         line_key(alloc, words)
     }
@@ -164,7 +164,7 @@ impl Told for tables::Fact2 {
     }
 }
 
-impl Told for tables::Void {
+impl Shown for tables::Void {
     fn key_of(alloc: Global, words: &str) -> Result<LineKey, Trouble> {
         line_key(alloc, words)
     }

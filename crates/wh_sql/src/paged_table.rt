@@ -9,7 +9,7 @@ ghost use Rattle.wh_rows.specs.Meaning.{Means};
 ghost use Rattle.wh_rows.specs.Raw.{ReadsFrontStored};
 ghost use Rattle.wh_rows.specs.Parts.{PartTexts, forward, part_text, bind_part, stands_behind, is_behind, IsKeyed, StandsOnce};
 
-use crate::keeps::KeyedTable;
+use crate::keyed_table::KeyedTable;
 use std::alloc::AllocError;
 
 /// The texts that show a table part by part.

@@ -2,8 +2,8 @@ use Rattle.std.proofs.Common.{◌≡◌, ◌∙◌, sym, ap, arith, pos, to_z, w
 use Rattle.std.proofs.lemmas.Int.{to_z_pos}
 use Rattle.wh_day.specs.Day.{day_of_key, day_of_number}
 use Rattle.wh_engine.proofs.MadeCalendar.{one_day, no_day}
-use Rattle.wh_engine.proofs.making.calendar_rows.Goals as goal
-use Rattle.wh_engine.proofs.making.calendar_rows.Goals.{in-Some+in_ok-date_row+in_ok-push, in_default}
+use Rattle.wh_engine.proofs.init.calendar_rows.Goals as goal
+use Rattle.wh_engine.proofs.init.calendar_rows.Goals.{in-Some+in_ok-date_row+in_ok-push, in_default}
 
 pub loop-number-preserved : goal.loop-number-preserved
 loop-number-preserved c =

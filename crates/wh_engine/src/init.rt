@@ -3,13 +3,13 @@
 ghost use Rattle.std.specs.Prelude.{◌≡◌, None, Some, [], ◌∷◌, IfOk, OnOk};
 ghost use Rattle.sqlite.specs.State.{HasCleanDisk};
 ghost use Rattle.wh_rows.specs.AtRest.{IsWriting, Leaves};
-ghost use Rattle.wh_rows.specs.Tables.{Tables as TenTables};
+ghost use Rattle.wh_rows.specs.Tables.{Tables as TypedTables};
 ghost use Rattle.wh_store.specs.Reads.{state_of};
 ghost use Rattle.wh_engine.specs.Scanned.{WasClean};
 ghost use Rattle.wh_engine.specs.Writing.{WritesIn, MakesIn};
 ghost use Rattle.wh_model.specs.Defined.{AreOf};
-ghost use Rattle.wh_plan.specs.FirstRows.{IsGoodPolicy, making_row, calendar_rows, with_first, MayBeFirst};
-ghost use Rattle.wh_model.specs.Sound.{making_of};
+ghost use Rattle.wh_plan.specs.FirstRows.{IsGoodPolicy, making_row, calendar_rows, with_first_rows, MayBeFirst};
+ghost use Rattle.wh_model.specs.Sound.{init_of};
 
 use sqlite::Alter;
 use sqlite::types::Bytes;
@@ -60,7 +60,7 @@ fn put_first<S: Alter>(
 ) -> Result<(), Cause>
     ensures same_reference { writing.new.tables.ghost_name ≡ writing.old.tables.ghost_name }
     ensures writes { WritesIn S.Store writing.old writing.new (MayBeFirst command.now customer.now profiles.now calendar.now) }
-    ensures put { MakesIn S.Store writing.old writing.new result (MayBeFirst command.now customer.now profiles.now calendar.now) (with_first command.now customer.now profiles.now calendar.now) }
+    ensures put { MakesIn S.Store writing.old writing.new result (MayBeFirst command.now customer.now profiles.now calendar.now) (with_first_rows command.now customer.now profiles.now calendar.now) }
 {
     writing.put::<tables::Command>(alloc, command)?;
     writing.put::<tables::Customer>(alloc, customer)?;
@@ -69,7 +69,7 @@ fn put_first<S: Alter>(
 }
 
 /// Makes the tables of a warehouse with these limits whose one command is a making, with this policy and these bytes.
-pub fn write_making<S: Alter>(
+pub fn write_init<S: Alter>(
     writing: &mut Writing<'_, S>,
     alloc: Global,
     limits: Limits,
@@ -79,7 +79,7 @@ pub fn write_making<S: Alter>(
     ensures same_reference { writing.new.tables.ghost_name ≡ writing.old.tables.ghost_name }
     ensures clean { WasClean S.Store writing.old.tables.now writing.new.tables.now }
     ensures made { HasCleanDisk (state_of S.Store writing.new.tables.now) → IsWriting None None (state_of S.Store writing.old.tables.now) → IsGoodPolicy policy.now
-        → OnOk result ((t : TenTables) × AreOf limits (making_of policy.now bytes.now ∷ []) t × IsWriting None (Some t) (state_of S.Store writing.new.tables.now)) }
+        → OnOk result ((t : TypedTables) × AreOf limits (init_of policy.now bytes.now ∷ []) t × IsWriting None (Some t) (state_of S.Store writing.new.tables.now)) }
     ensures left { HasCleanDisk (state_of S.Store writing.new.tables.now) → IsWriting None None (state_of S.Store writing.old.tables.now) → IsGoodPolicy policy.now
         → Leaves None (state_of S.Store writing.new.tables.now) }
 {
@@ -88,6 +88,6 @@ pub fn write_making<S: Alter>(
     let customer = no_card_row(alloc, &types)?;
     let profiles = first_profiles(alloc, &types)?;
     let calendar = calendar_rows(alloc, policy)?;
-    writing.make(alloc, limits)?;
+    writing.init(alloc, limits)?;
     put_first(writing, alloc, &command, &customer, &profiles, &calendar)
 }

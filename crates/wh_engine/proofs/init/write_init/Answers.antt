@@ -4,8 +4,8 @@ use Rattle.wh_history.specs.Tables.{no_card_row}
 use Rattle.wh_store.specs.Meta.{made_with}
 use Rattle.wh_plan.specs.FirstRows.{first_profiles}
 use Rattle.wh_engine.proofs.MadeFirst.{AreFirst, are_first}
-use Rattle.wh_engine.proofs.making.write_making.Given.{Over}
-use Rattle.wh_engine.proofs.making.write_making.Goals as goal
+use Rattle.wh_engine.proofs.init.write_init.Given.{Over}
+use Rattle.wh_engine.proofs.init.write_init.Goals as goal
 
 first : (g : Over) (c : goal.After-drop-types-2 g) → AreFirst c.args.limits c.args.policy.now c.args.bytes.now c.in_ok-command.command c.in_ok-customer.customer c.deref-3.result.now c.deref-4.result.now
 first g c =
@@ -16,10 +16,10 @@ first g c =
 
 pub returns-clause-made : goal.returns-clause-made
 returns-clause-made g c clean at good =
-    let start = c.in_ok-make.ensures.made (c.put_first.ensures.writes.clean clean) at in
+    let start = c.in_ok-init.ensures.made (c.put_first.ensures.writes.clean clean) at in
     on_ok_weaker c.put_first.result (λ writing. (_, (first g c).are, writing)) (c.put_first.ensures.put clean None (made_with c.args.limits) start ((first g c).may good))
 
 pub returns-clause-left : goal.returns-clause-left
 returns-clause-left g c clean at good =
-    let start = c.in_ok-make.ensures.made (c.put_first.ensures.writes.clean clean) at in
+    let start = c.in_ok-init.ensures.made (c.put_first.ensures.writes.clean clean) at in
     c.put_first.ensures.writes.left clean None (made_with c.args.limits) start ((first g c).may good)
