@@ -6,7 +6,7 @@ ghost use Rattle.wh_rows.specs.Names.{is_there};
 ghost use Rattle.wh_rows.specs.Tables.{Tables as TypedTables};
 ghost use Rattle.wh_sql.specs.Reads.{IsOfDamage};
 ghost use Rattle.wh_store.specs.Faithful.{RestsFaithfully};
-ghost use Rattle.wh_store.specs.Reads.{ReadsOnly, state_of, SaysAsStored};
+ghost use Rattle.wh_store.specs.Reads.{ReadsOnlyIn, WhenStored};
 ghost use Rattle.wh_store.specs.Scan.{rows_left, HandsOut};
 ghost use Rattle.wh_admission.specs.Checked.{stored_in};
 ghost use Rattle.wh_checking.specs.Compared.{IsNext, IsEnd, AreRowsOrNot};
@@ -74,11 +74,11 @@ pub(crate) fn has_the_same_rows<T: PagedTable, S: Alter, M: Alter>(
     format: Format,
     expected: &mut Tables<M>,
 ) -> Result<bool, ReadFault>
-    ensures reads { ReadsOnly (state_of S.Store tables.old) (state_of S.Store tables.new) result }
+    ensures reads { ReadsOnlyIn S.Store tables.old tables.new result }
     ensures rests { (t : TypedTables) → RestsFaithfully M.Store (Some t) expected.old.conn → OnOk result (RestsFaithfully M.Store (Some t) expected.new.conn) }
-    ensures same { SaysAsStored (state_of S.Store tables.old) (state_of S.Store tables.new) (λ stored. is_there T.KeyedTable.name stored.format ≡ is_there T.KeyedTable.name format → (t : TypedTables) → is_there T.KeyedTable.name t.format ≡ is_there T.KeyedTable.name format
+    ensures same { WhenStored S.Store tables.old tables.new (λ stored. is_there T.KeyedTable.name stored.format ≡ is_there T.KeyedTable.name format → (t : TypedTables) → is_there T.KeyedTable.name t.format ≡ is_there T.KeyedTable.name format
         → RestsFaithfully M.Store (Some t) expected.old.conn → IfOk result (AreRowsOrNot T.StoredTable.layout (get (T.StoredTable.rows t)) (stored.rows T.KeyedTable.name))) }
-    ensures damaged { SaysAsStored (state_of S.Store tables.old) (state_of S.Store tables.new) (λ stored. IfErr result (IsOfDamage T.StoredTable.layout T.KeyedTable.name (stored.rows T.KeyedTable.name))) }
+    ensures damaged { WhenStored S.Store tables.old tables.new (λ stored. IfErr result (IsOfDamage T.StoredTable.layout T.KeyedTable.name (stored.rows T.KeyedTable.name))) }
 {
     let mut cursor = Cursor::new(alloc);
     let mut ahead = Cursor::new(alloc);
@@ -110,11 +110,11 @@ pub(crate) fn holds_the_same<T: PagedTable, S: Alter, M: Alter>(
     format: Format,
     expected: &mut Tables<M>,
 ) -> Result<bool, ReadFault>
-    ensures reads { ReadsOnly (state_of S.Store tables.old) (state_of S.Store tables.new) result }
+    ensures reads { ReadsOnlyIn S.Store tables.old tables.new result }
     ensures rests { (t : TypedTables) → RestsFaithfully M.Store (Some t) expected.old.conn → OnOk result (RestsFaithfully M.Store (Some t) expected.new.conn) }
-    ensures same { SaysAsStored (state_of S.Store tables.old) (state_of S.Store tables.new) (λ stored. (is_there T.KeyedTable.name format ≡ true → is_there T.KeyedTable.name stored.format ≡ true) → (t : TypedTables) → is_there T.KeyedTable.name t.format ≡ is_there T.KeyedTable.name format
+    ensures same { WhenStored S.Store tables.old tables.new (λ stored. (is_there T.KeyedTable.name format ≡ true → is_there T.KeyedTable.name stored.format ≡ true) → (t : TypedTables) → is_there T.KeyedTable.name t.format ≡ is_there T.KeyedTable.name format
         → RestsFaithfully M.Store (Some t) expected.old.conn → IfOk result (AreRowsOrNot T.StoredTable.layout (get (T.StoredTable.rows t)) ((stored_in format stored).rows T.KeyedTable.name))) }
-    ensures damaged { SaysAsStored (state_of S.Store tables.old) (state_of S.Store tables.new) (λ stored. IfErr result (IsOfDamage T.StoredTable.layout T.KeyedTable.name ((stored_in format stored).rows T.KeyedTable.name))) }
+    ensures damaged { WhenStored S.Store tables.old tables.new (λ stored. IfErr result (IsOfDamage T.StoredTable.layout T.KeyedTable.name ((stored_in format stored).rows T.KeyedTable.name))) }
 {
     if !T::is_in(format) {
         return Ok(true);

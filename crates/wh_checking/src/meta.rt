@@ -9,7 +9,7 @@ ghost use Rattle.wh_rows.specs.Raw.{HasDamage};
 ghost use Rattle.wh_rows.specs.Rows as row;
 ghost use Rattle.wh_rows.specs.declared.table.Table.TheVariants.{Meta};
 ghost use Rattle.wh_sql.specs.Reads.{IsOfDamage, IsServed, Spares};
-ghost use Rattle.wh_store.specs.Reads.{ReadsOnly, state_of, SaysAsStored};
+ghost use Rattle.wh_store.specs.Reads.{state_of, ReadsOnlyIn, SparesIn, WhenStored};
 ghost use Rattle.wh_admission.specs.Checked.{stored_in};
 ghost use Rattle.wh_checking.specs.Compared.{AreRowsOrNot};
 ghost use Rattle.wh_checking.specs.Meta.{AreLimitsSaid, made_saying, made_in};
@@ -76,9 +76,9 @@ fn holds_limits<S: Alter>(
     format: Format,
     limits: Limits,
 ) -> Result<bool, ReadFault>
-    ensures reads { ReadsOnly (state_of S.Store tables.old) (state_of S.Store tables.new) result }
-    ensures said { SaysAsStored (state_of S.Store tables.old) (state_of S.Store tables.new) (λ stored. IfOk result (AreRowsOrNot row.meta (meta_at format limits) (stored.rows Meta))) }
-    ensures damaged { SaysAsStored (state_of S.Store tables.old) (state_of S.Store tables.new) (λ stored. IfErr result (IsOfDamage row.meta Meta (stored.rows Meta))) }
+    ensures reads { ReadsOnlyIn S.Store tables.old tables.new result }
+    ensures said { WhenStored S.Store tables.old tables.new (λ stored. IfOk result (AreRowsOrNot row.meta (meta_at format limits) (stored.rows Meta))) }
+    ensures damaged { WhenStored S.Store tables.old tables.new (λ stored. IfErr result (IsOfDamage row.meta Meta (stored.rows Meta))) }
     ensures good { are_limits limits ≡ true }
 {
     // Each is from 1 to its greatest, as these calls say.
@@ -90,9 +90,9 @@ fn holds_limits<S: Alter>(
 
 /// Whether meta has no damaged row: it is read to its end, whatever it is compared with.
 fn is_undamaged<S: Alter>(tables: &mut Tables<S>, alloc: Global) -> Result<(), ReadFault>
-    ensures reads { ReadsOnly (state_of S.Store tables.old) (state_of S.Store tables.new) result }
-    ensures undamaged { SaysAsStored (state_of S.Store tables.old) (state_of S.Store tables.new) (λ stored. OnOk result (¬ HasDamage row.meta (stored.rows Meta))) }
-    ensures damaged { SaysAsStored (state_of S.Store tables.old) (state_of S.Store tables.new) (λ stored. IfErr result (IsOfDamage row.meta Meta (stored.rows Meta))) }
+    ensures reads { ReadsOnlyIn S.Store tables.old tables.new result }
+    ensures undamaged { WhenStored S.Store tables.old tables.new (λ stored. OnOk result (¬ HasDamage row.meta (stored.rows Meta))) }
+    ensures damaged { WhenStored S.Store tables.old tables.new (λ stored. IfErr result (IsOfDamage row.meta Meta (stored.rows Meta))) }
 {
     holds_limits(tables, alloc, Format::One, Limits::greatest())?;
     Ok(())
@@ -105,9 +105,9 @@ pub(crate) fn limits_said<S: Alter>(
     alloc: Global,
     format: Format,
 ) -> Result<Option<Limits>, ReadFault>
-    ensures reads { Spares (state_of S.Store tables.old) (state_of S.Store tables.new) (IsServed result) }
-    ensures said { SaysAsStored (state_of S.Store tables.old) (state_of S.Store tables.new) (λ stored. IfOk result (AreLimitsSaid (stored_in format stored))) }
-    ensures damaged { SaysAsStored (state_of S.Store tables.old) (state_of S.Store tables.new) (λ stored. IfErr result (IsOfDamage row.meta Meta (stored.rows Meta))) }
+    ensures reads { SparesIn S.Store tables.old tables.new (IsServed result) }
+    ensures said { WhenStored S.Store tables.old tables.new (λ stored. IfOk result (AreLimitsSaid (stored_in format stored))) }
+    ensures damaged { WhenStored S.Store tables.old tables.new (λ stored. IfErr result (IsOfDamage row.meta Meta (stored.rows Meta))) }
     ensures good { IfOk result (λ said. IfSome said (λ limits. are_limits limits ≡ true)) }
 {
     match tables.limits(alloc) {

@@ -9,10 +9,11 @@ use Rattle.wh_rows.specs.Raw.{Stored}
 use Rattle.wh_rows.specs.Tables.{Tables as TypedTables}
 use Rattle.wh_sql.specs.declared.fault.ReadFault.{ReadFault}
 use Rattle.wh_store.specs.Reads.{IsAsItWas, ReadsOnly, Spares, SaysAtRest, SaysAsStored, is_second_taken, state_of}
+pub use Rattle.wh_store.specs.Reads.{ReadsOnlyIn, SparesIn, WhenAtRest, WhenStored}
 use Rattle.wh_store.specs.declared.tables.Tables.{Tables}
 use Rattle.wh_model.specs.Defined.{AreOf}
 use Rattle.wh_model.specs.Sound.{IsAccepted}
-use Rattle.wh_plan.specs.Reads.{Finds}
+pub use Rattle.wh_plan.specs.Reads.{WhenOfCommands}
 use Rattle.wh_engine.specs.Answered.{IsReady, IsLeft}
 use Rattle.wh_engine.specs.Faults.{IsServed, IsWorkedOut, BlamesDamage, TellsTaken, stops}
 use Rattle.wh_engine.specs.Outcome.{Outcome}
@@ -23,14 +24,6 @@ use Rattle.wh_engine.specs.declared.session.Session.{Session}
 
 -- ---- what is so
 
--- where these tables were at rest
-abbrev pub WhenAtRest : {S : Type 0} → Ghosts S → Tables S → Tables S → (TypedTables → Type 0) → Type 0
-WhenAtRest g old new fact = SaysAtRest (state_of g old) (state_of g new) fact
-
--- where this was stored
-abbrev pub WhenStored : {S : Type 0} → Ghosts S → Tables S → Tables S → (Stored → Type 0) → Type 0
-WhenStored g old new fact = SaysAsStored (state_of g old) (state_of g new) fact
-
 -- where a session was ready for commands with its tables, of both afterwards
 abbrev pub WhenReadyOn : {S : Type 0} → Ghosts S → Tables S → Tables S → Session → Session → (Limits → List Accepted → Session → State → Type 0) → Type 0
 WhenReadyOn g old new before after fact =
@@ -40,10 +33,7 @@ WhenReadyOn g old new before after fact =
 abbrev pub WhenReady : {S : Type 0} → Ghosts S → Engine S → Engine S → (Limits → List Accepted → Session → State → Type 0) → Type 0
 WhenReady g old new fact = WhenReadyOn g old.tables new.tables old.session new.session fact
 
--- where the tables were those of commands, or of commands that a warehouse can have accepted under these limits
-abbrev pub WhenOfCommands : {S : Type 0} → Ghosts S → Tables S → Tables S → (Limits → List Accepted → Type 0) → Type 0
-WhenOfCommands g old new fact = Finds (state_of g old) (state_of g new) fact
-
+-- where the tables were those of commands that a warehouse can have accepted under these limits
 abbrev pub WhenAccepted : {S : Type 0} → Ghosts S → Tables S → Tables S → Limits → (List Accepted → Type 0) → Type 0
 WhenAccepted g old new limits fact = WhenAtRest g old new (λ t. (commands : List Accepted) → AreOf limits commands t → IsAccepted limits commands → fact commands)
 
@@ -59,13 +49,6 @@ pub record Keeps {S : Type 0} (g : Ghosts S) (old new : Tables S) (calm : Type 0
   pub clean : HasCleanDisk (state_of g new) → HasCleanDisk (state_of g old)
   pub same : HasCleanDisk (state_of g new) → calm → IsAsItWas (state_of g old) (state_of g new)
   pub crash : HasCleanDisk (state_of g new) → calm → (trees : Trees) → (state_of g new).may_leave trees → (state_of g old).may_leave trees
-
--- a reading of the tables leaves them as they were where this holds, and a crash leaves them; it is as a statement's reading says
-abbrev pub SparesIn : {S : Type 0} → Ghosts S → Tables S → Tables S → Type 0 → Type 0
-SparesIn g old new calm = Spares (state_of g old) (state_of g new) calm
-
-abbrev pub ReadsOnlyIn : {S A : Type 0} → Ghosts S → Tables S → Tables S → Result A ReadFault → Type 0
-ReadsOnlyIn g old new result = ReadsOnly (state_of g old) (state_of g new) result
 
 -- What a reading leaves of the tables: they are as they were unless the database refused a call, and a crash leaves them. A table that it names as damaged is
 -- damaged, and a name that it calls taken is taken. It never asks for the warehouse to be opened again.

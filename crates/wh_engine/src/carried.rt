@@ -3,12 +3,11 @@
 ghost use Rattle.std.specs.Prelude.{◌≡◌, ◌≤◌, ℕ, [], List, IfErr, IfOk, OnOk};
 ghost use Rattle.wh_policy.specs.declared.attribute.Attribute.{Attribute};
 ghost use Rattle.wh_admission.specs.Admission.{AreAdmitted, current_policy};
-ghost use Rattle.wh_plan.specs.Reads.{Finds};
 ghost use Rattle.wh_policy.specs.Policy.{policy_attributes};
 ghost use Rattle.wh_records.specs.Carried.{carried_between, carried_of};
 ghost use Rattle.wh_records.specs.Filled.{IsFilled};
 ghost use Rattle.wh_records.specs.Parts.{IsPartAt};
-ghost use Rattle.wh_store.specs.Reads.{ReadsOnly, state_of};
+ghost use Rattle.wh_store.specs.Reads.{ReadsOnlyIn};
 ghost use Rattle.wh_engine.specs.Carried.{IsSourceOf};
 ghost use Rattle.wh_engine.specs.Scanned.{EngineReads, IsServing, IsWanting, Reads, WhenAtRest, WhenOfCommands, WhenReady};
 
@@ -42,8 +41,8 @@ fn records_between<S: Alter>(
     last: u64,
 ) -> Result<Vec<DimensionRecord>, ReadFault>
     requires { after ≤ last }
-    ensures reads { ReadsOnly (state_of S.Store tables.old) (state_of S.Store tables.new) result }
-    ensures records { Finds (state_of S.Store tables.old) (state_of S.Store tables.new) (λ limits commands. AreAdmitted limits commands → IsSourceOf commands source.now → IfOk result (λ found. found.items ≡ carried_between source.now.kind source.now.dim commands after last)) }
+    ensures reads { ReadsOnlyIn S.Store tables.old tables.new result }
+    ensures records { WhenOfCommands S.Store tables.old tables.new (λ limits commands. AreAdmitted limits commands → IsSourceOf commands source.now → IfOk result (λ found. found.items ≡ carried_between source.now.kind source.now.dim commands after last)) }
 {
     let members = members_between(tables, alloc, source.dim, after, last)?;
     let found = carried_members(alloc, source.kind, &source.types, &members)?;
@@ -60,8 +59,8 @@ fn fill_between<S: Alter>(
     filling: &mut Filling,
 ) -> Result<(), ReadFault>
     requires { after ≤ last }
-    ensures reads { ReadsOnly (state_of S.Store tables.old) (state_of S.Store tables.new) result }
-    ensures filled { Finds (state_of S.Store tables.old) (state_of S.Store tables.new) (λ limits commands. AreAdmitted limits commands → IsSourceOf commands source.now → OnOk result ((attributes : List Attribute) (place : ℕ) → IsFilled attributes place (carried_between source.now.kind source.now.dim commands 0 after) filling.old → IsFilled attributes place (carried_between source.now.kind source.now.dim commands 0 last) filling.new)) }
+    ensures reads { ReadsOnlyIn S.Store tables.old tables.new result }
+    ensures filled { WhenOfCommands S.Store tables.old tables.new (λ limits commands. AreAdmitted limits commands → IsSourceOf commands source.now → OnOk result ((attributes : List Attribute) (place : ℕ) → IsFilled attributes place (carried_between source.now.kind source.now.dim commands 0 after) filling.old → IsFilled attributes place (carried_between source.now.kind source.now.dim commands 0 last) filling.new)) }
 {
     let found = records_between(tables, alloc, source, after, last)?;
     filling.add(alloc, &found)?;
@@ -76,8 +75,8 @@ fn fill<S: Alter>(
     last: u64,
     filling: &mut Filling,
 ) -> Result<(), ReadFault>
-    ensures reads { ReadsOnly (state_of S.Store tables.old) (state_of S.Store tables.new) result }
-    ensures filled { Finds (state_of S.Store tables.old) (state_of S.Store tables.new) (λ limits commands. AreAdmitted limits commands → IsSourceOf commands source.now → OnOk result ((attributes : List Attribute) (place : ℕ) → IsFilled attributes place [] filling.old → IsFilled attributes place (carried_between source.now.kind source.now.dim commands 0 last) filling.new)) }
+    ensures reads { ReadsOnlyIn S.Store tables.old tables.new result }
+    ensures filled { WhenOfCommands S.Store tables.old tables.new (λ limits commands. AreAdmitted limits commands → IsSourceOf commands source.now → OnOk result ((attributes : List Attribute) (place : ℕ) → IsFilled attributes place [] filling.old → IsFilled attributes place (carried_between source.now.kind source.now.dim commands 0 last) filling.new)) }
 {
     let mut after = 0;
     while after < last {
@@ -100,8 +99,8 @@ fn filled_part<S: Alter>(
     kind: RecordKind,
     place: usize,
 ) -> Result<Filling, ReadFault>
-    ensures reads { ReadsOnly (state_of S.Store tables.old) (state_of S.Store tables.new) result }
-    ensures filled { Finds (state_of S.Store tables.old) (state_of S.Store tables.new) (λ limits commands. AreAdmitted limits commands → policy.now ≡ current_policy commands → IfOk result (IsFilled (policy_attributes policy.now dim) place (carried_of kind dim commands))) }
+    ensures reads { ReadsOnlyIn S.Store tables.old tables.new result }
+    ensures filled { WhenOfCommands S.Store tables.old tables.new (λ limits commands. AreAdmitted limits commands → policy.now ≡ current_policy commands → IfOk result (IsFilled (policy_attributes policy.now dim) place (carried_of kind dim commands))) }
 {
     let types = policy.types(alloc, dim)?;
     let source = Source { dim, kind, types };
@@ -119,8 +118,8 @@ fn part_at<S: Alter>(
     dim: Dim,
     place: usize,
 ) -> Result<Part, ReadFault>
-    ensures reads { ReadsOnly (state_of S.Store tables.old) (state_of S.Store tables.new) result }
-    ensures part { Finds (state_of S.Store tables.old) (state_of S.Store tables.new) (λ limits commands. AreAdmitted limits commands → policy.now ≡ current_policy commands → IfOk result (IsPartAt policy.now commands dim place)) }
+    ensures reads { ReadsOnlyIn S.Store tables.old tables.new result }
+    ensures part { WhenOfCommands S.Store tables.old tables.new (λ limits commands. AreAdmitted limits commands → policy.now ≡ current_policy commands → IfOk result (IsPartAt policy.now commands dim place)) }
 {
     let firsts = filled_part(tables, alloc, policy, dim, RecordKind::First, place)?;
     if firsts.is_begun() {

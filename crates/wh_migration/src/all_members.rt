@@ -6,10 +6,10 @@ ghost use Rattle.wh_policy.specs.declared.attribute.Dim.TheVariants.{Product, St
 ghost use Rattle.wh_history.specs.Accepted.{Accepted, Governs, members, member_of};
 ghost use Rattle.wh_history.specs.Keys.{at_place};
 ghost use Rattle.wh_plan.specs.Reading.{HaveNoEmptyValue};
-ghost use Rattle.wh_plan.specs.Reads.{Finds};
+ghost use Rattle.wh_plan.specs.Reads.{WhenOfCommands};
 ghost use Rattle.wh_migration.specs.Migrated.{all_members, AreDimensionMembers, AreWarehouseMembers};
 ghost use Rattle.wh_model.specs.Sound.{IsAccepted};
-ghost use Rattle.wh_store.specs.Reads.{ReadsOnly, state_of};
+ghost use Rattle.wh_store.specs.Reads.{ReadsOnlyIn};
 
 use sqlite::Alter;
 use std::alloc::{AllocError, Global};
@@ -42,8 +42,8 @@ fn numbered_member<S: Alter>(
     dim: Dim,
     durable: u64,
 ) -> Result<Option<Member>, ReadFault>
-    ensures reads { ReadsOnly (state_of S.Store tables.old) (state_of S.Store tables.new) result }
-    ensures member { Finds (state_of S.Store tables.old) (state_of S.Store tables.new) (λ _ commands. HaveNoEmptyValue commands → IfOk result (λ member. member ≡ option_map (member_of dim commands) (at_place durable (members dim commands)))) }
+    ensures reads { ReadsOnlyIn S.Store tables.old tables.new result }
+    ensures member { WhenOfCommands S.Store tables.old tables.new (λ _ commands. HaveNoEmptyValue commands → IfOk result (λ member. member ≡ option_map (member_of dim commands) (at_place durable (members dim commands)))) }
 {
     let key = MemberKey { dim, durable };
     let found = tables.get::<tables::Member>(alloc, &key)?;
@@ -77,8 +77,8 @@ pub fn members_between<S: Alter>(
     last: u64,
 ) -> Result<Vec<Member>, ReadFault>
     requires { after ≤ last }
-    ensures reads { ReadsOnly (state_of S.Store tables.old) (state_of S.Store tables.new) result }
-    ensures members { Finds (state_of S.Store tables.old) (state_of S.Store tables.new) (λ _ commands. HaveNoEmptyValue commands → IfOk result (λ found. found.items ≡ map (member_of dim commands) (drop after (take last (members dim commands))))) }
+    ensures reads { ReadsOnlyIn S.Store tables.old tables.new result }
+    ensures members { WhenOfCommands S.Store tables.old tables.new (λ _ commands. HaveNoEmptyValue commands → IfOk result (λ found. found.items ≡ map (member_of dim commands) (drop after (take last (members dim commands))))) }
 {
     let mut found = Vec::new(alloc);
     let mut durable = after;
@@ -96,8 +96,8 @@ fn all_members<S: Alter>(
     alloc: Global,
     dim: Dim,
 ) -> Result<Vec<Member>, ReadFault>
-    ensures reads { ReadsOnly (state_of S.Store tables.old) (state_of S.Store tables.new) result }
-    ensures members { Finds (state_of S.Store tables.old) (state_of S.Store tables.new) (λ _ commands. HaveNoEmptyValue commands → IfOk result (λ found. found.items ≡ all_members dim commands)) }
+    ensures reads { ReadsOnlyIn S.Store tables.old tables.new result }
+    ensures members { WhenOfCommands S.Store tables.old tables.new (λ _ commands. HaveNoEmptyValue commands → IfOk result (λ found. found.items ≡ all_members dim commands)) }
 {
     let last = last_member(tables, alloc, dim)?;
     members_between(tables, alloc, dim, 0, last.durable)
@@ -110,8 +110,8 @@ fn dimension_members<S: Alter>(
     newer: &Policy,
     dim: Dim,
 ) -> Result<DimensionMembers, ReadFault>
-    ensures reads { ReadsOnly (state_of S.Store tables.old) (state_of S.Store tables.new) result }
-    ensures read { Finds (state_of S.Store tables.old) (state_of S.Store tables.new) (λ limits commands. (c : Accepted) → IsAccepted limits (commands ++ c ∷ []) → c.content ≡ Governs newer.now → IfOk result (AreDimensionMembers dim (commands ++ c ∷ []))) }
+    ensures reads { ReadsOnlyIn S.Store tables.old tables.new result }
+    ensures read { WhenOfCommands S.Store tables.old tables.new (λ limits commands. (c : Accepted) → IsAccepted limits (commands ++ c ∷ []) → c.content ≡ Governs newer.now → IfOk result (AreDimensionMembers dim (commands ++ c ∷ []))) }
 {
     Ok(DimensionMembers {
         dim,
@@ -126,8 +126,8 @@ pub(crate) fn read_dimensions<S: Alter>(
     alloc: Global,
     newer: &Policy,
 ) -> Result<WarehouseMembers, ReadFault>
-    ensures reads { ReadsOnly (state_of S.Store tables.old) (state_of S.Store tables.new) result }
-    ensures read { Finds (state_of S.Store tables.old) (state_of S.Store tables.new) (λ limits commands. (c : Accepted) → IsAccepted limits (commands ++ c ∷ []) → c.content ≡ Governs newer.now → IfOk result (AreWarehouseMembers (commands ++ c ∷ []))) }
+    ensures reads { ReadsOnlyIn S.Store tables.old tables.new result }
+    ensures read { WhenOfCommands S.Store tables.old tables.new (λ limits commands. (c : Accepted) → IsAccepted limits (commands ++ c ∷ []) → c.content ≡ Governs newer.now → IfOk result (AreWarehouseMembers (commands ++ c ∷ []))) }
 {
     let products = dimension_members(tables, alloc, newer, Dim::Product)?;
     let stores = dimension_members(tables, alloc, newer, Dim::Store)?;

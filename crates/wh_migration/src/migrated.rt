@@ -16,10 +16,10 @@ ghost use Rattle.wh_model.specs.Defined.{fact_at};
 ghost use Rattle.wh_rows.specs.Facts.{facts_in};
 ghost use Rattle.wh_rows.specs.Rows as row;
 ghost use Rattle.wh_plan.specs.Edits.{IsFactPlan};
-ghost use Rattle.wh_plan.specs.Reads.{Finds, Tells};
+ghost use Rattle.wh_plan.specs.Reads.{Tells, WhenOfCommands};
 ghost use Rattle.wh_migration.specs.Migrated.{all_rows, keys_anew, keys_given, moved_anew, showing, AreWarehouseMembers, ArePlannedAnew, AreAllShown, AreShown, AreDimensionMembers, IsMigrated};
 ghost use Rattle.wh_model.specs.Sound.{IsAccepted};
-ghost use Rattle.wh_store.specs.Reads.{ReadsOnly, SaysAtRest, state_of};
+ghost use Rattle.wh_store.specs.Reads.{state_of, ReadsOnlyIn, WhenAtRest};
 ghost use Rattle.wh_store.specs.Scan.{rows_left, HandsOut};
 
 use crate::all_members::{DimensionMembers, WarehouseMembers};
@@ -59,8 +59,8 @@ fn stored_table<S: Alter>(
     alloc: Global,
     dim: Dim,
 ) -> Result<Vec<DimRow>, ReadFault>
-    ensures reads { ReadsOnly (state_of S.Store tables.old) (state_of S.Store tables.new) result }
-    ensures rows { Finds (state_of S.Store tables.old) (state_of S.Store tables.new) (λ _ commands. IfOk result (λ rows. rows.items ≡ dimension_table commands dim)) }
+    ensures reads { ReadsOnlyIn S.Store tables.old tables.new result }
+    ensures rows { WhenOfCommands S.Store tables.old tables.new (λ _ commands. IfOk result (λ rows. rows.items ≡ dimension_table commands dim)) }
 {
     match dim {
         Dim::Product => tables.all::<tables::Product>(alloc),
@@ -76,8 +76,8 @@ fn migrated_edits<S: Alter>(
     dimension: &DimensionShape,
     members: &[Member],
 ) -> Result<Vec<Edit<DimRow, u64>>, ReadFault>
-    ensures reads { ReadsOnly (state_of S.Store tables.old) (state_of S.Store tables.new) result }
-    ensures edits { Finds (state_of S.Store tables.old) (state_of S.Store tables.new) (λ _ commands. (after : List Accepted) → RecordsHaveDays after → IsMigrated after dimension.now members.now
+    ensures reads { ReadsOnlyIn S.Store tables.old tables.new result }
+    ensures edits { WhenOfCommands S.Store tables.old tables.new (λ _ commands. (after : List Accepted) → RecordsHaveDays after → IsMigrated after dimension.now members.now
         → IfOk result (λ edits. IsRowPlan (dimension_row commands dimension.now.dim) (dimension_row after dimension.now.dim) edits.items)) }
 {
     let stored = stored_table(tables, alloc, dimension.dim)?;
@@ -92,8 +92,8 @@ fn dimension_edits<S: Alter>(
     read: &DimensionMembers,
     profiles: &Profiles,
 ) -> Result<Vec<Edit<DimRow, u64>>, ReadFault>
-    ensures reads { ReadsOnly (state_of S.Store tables.old) (state_of S.Store tables.new) result }
-    ensures edits { Finds (state_of S.Store tables.old) (state_of S.Store tables.new) (λ _ commands. (dim : Dim) (after : List Accepted) → RecordsHaveDays after → AreDimensionMembers dim after read.now → profiles.now ≡ all_numbered (profiles_of after)
+    ensures reads { ReadsOnlyIn S.Store tables.old tables.new result }
+    ensures edits { WhenOfCommands S.Store tables.old tables.new (λ _ commands. (dim : Dim) (after : List Accepted) → RecordsHaveDays after → AreDimensionMembers dim after read.now → profiles.now ≡ all_numbered (profiles_of after)
         → IfOk result (λ edits. IsRowPlan (dimension_row commands dim) (dimension_row after dim) edits.items)) }
 {
     let dimension = DimensionShape {
@@ -144,8 +144,8 @@ fn next_fact<S: Alter>(
     format: Format,
     cursor: &mut Cursor<LineKey, Fact>,
 ) -> Result<Option<Fact>, ReadFault>
-    ensures reads { ReadsOnly (state_of S.Store tables.old) (state_of S.Store tables.new) result }
-    ensures rows { SaysAtRest (state_of S.Store tables.old) (state_of S.Store tables.new) (λ t. t.format ≡ format → IfOk result (λ found. HandsOut (rows_left row.fact (facts_in format t) cursor.old) found (rows_left row.fact (facts_in format t) cursor.new))) }
+    ensures reads { ReadsOnlyIn S.Store tables.old tables.new result }
+    ensures rows { WhenAtRest S.Store tables.old tables.new (λ t. t.format ≡ format → IfOk result (λ found. HandsOut (rows_left row.fact (facts_in format t) cursor.old) found (rows_left row.fact (facts_in format t) cursor.new))) }
 {
     match format {
         Format::One => next_row::<tables::Fact, S>(tables, alloc, format, cursor),
@@ -210,7 +210,7 @@ impl ShownDimensions<'_> {
         alloc: Global,
         format: Format,
     ) -> Result<Vec<Fact>, ReadFault>
-        ensures reads { ReadsOnly (state_of S.Store tables.old) (state_of S.Store tables.new) result }
+        ensures reads { ReadsOnlyIn S.Store tables.old tables.new result }
         ensures moved { Tells (state_of S.Store tables.old) (state_of S.Store tables.new) result (λ t moved. t.format ≡ format → moved.items ≡ moved_anew self.now (values (facts_in format t))) }
     {
         let mut cursor = Cursor::new(alloc);
@@ -268,8 +268,8 @@ fn migrated_facts<S: Alter>(
     read: &WarehouseMembers,
     profiles: &Profiles,
 ) -> Result<Vec<FactEdit>, ReadFault>
-    ensures reads { ReadsOnly (state_of S.Store tables.old) (state_of S.Store tables.new) result }
-    ensures edits { Finds (state_of S.Store tables.old) (state_of S.Store tables.new) (λ _ commands. format ≡ format_of commands → (c : Accepted) → governs c.content ≡ true → AreWarehouseMembers (commands ++ c ∷ []) read.now → profiles.now ≡ all_numbered (profiles_of (commands ++ c ∷ []))
+    ensures reads { ReadsOnlyIn S.Store tables.old tables.new result }
+    ensures edits { WhenOfCommands S.Store tables.old tables.new (λ _ commands. format ≡ format_of commands → (c : Accepted) → governs c.content ≡ true → AreWarehouseMembers (commands ++ c ∷ []) read.now → profiles.now ≡ all_numbered (profiles_of (commands ++ c ∷ []))
         → IfOk result (λ edits. IsFactPlan (fact_at commands) (fact_at (commands ++ c ∷ [])) edits.items)) }
 {
     let shown = shown_dimensions(alloc, read, profiles)?;
@@ -294,8 +294,8 @@ pub(crate) fn migrated_tables<S: Alter>(
     read: &WarehouseMembers,
     profiles: &Profiles,
 ) -> Result<MigratedTables, ReadFault>
-    ensures reads { ReadsOnly (state_of S.Store tables.old) (state_of S.Store tables.new) result }
-    ensures edits { Finds (state_of S.Store tables.old) (state_of S.Store tables.new) (λ limits commands. format ≡ format_of commands → (c : Accepted) → IsAccepted limits (commands ++ c ∷ []) → governs c.content ≡ true → AreWarehouseMembers (commands ++ c ∷ []) read.now → profiles.now ≡ all_numbered (profiles_of (commands ++ c ∷ [])) → IfOk result (ArePlannedAnew commands (commands ++ c ∷ []))) }
+    ensures reads { ReadsOnlyIn S.Store tables.old tables.new result }
+    ensures edits { WhenOfCommands S.Store tables.old tables.new (λ limits commands. format ≡ format_of commands → (c : Accepted) → IsAccepted limits (commands ++ c ∷ []) → governs c.content ≡ true → AreWarehouseMembers (commands ++ c ∷ []) read.now → profiles.now ≡ all_numbered (profiles_of (commands ++ c ∷ [])) → IfOk result (ArePlannedAnew commands (commands ++ c ∷ []))) }
 {
     let products = dimension_edits(tables, alloc, &read.products, profiles)?;
     let stores = dimension_edits(tables, alloc, &read.stores, profiles)?;

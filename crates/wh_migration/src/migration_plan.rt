@@ -10,9 +10,9 @@ ghost use Rattle.wh_model.specs.Defined.{command_at};
 ghost use Rattle.wh_plan.specs.Edits.{AreEdits};
 ghost use Rattle.wh_plan.specs.FactEdits.{edits_in};
 ghost use Rattle.wh_migration.specs.Migrated.{IsShownAnew};
-ghost use Rattle.wh_plan.specs.Reads.{Finds};
+ghost use Rattle.wh_plan.specs.Reads.{WhenOfCommands};
 ghost use Rattle.wh_model.specs.Sound.{IsAccepted};
-ghost use Rattle.wh_store.specs.Reads.{ReadsOnly, state_of};
+ghost use Rattle.wh_store.specs.Reads.{ReadsOnlyIn};
 
 use crate::all_members::{WarehouseMembers, read_dimensions};
 use crate::calendar_plan::calendar_edits;
@@ -42,8 +42,8 @@ fn shown_anew<S: Alter>(
     format: Format,
     newer: &Policy,
 ) -> Result<MigratedMembers, ReadFault>
-    ensures reads { ReadsOnly (state_of S.Store tables.old) (state_of S.Store tables.new) result }
-    ensures shown { Finds (state_of S.Store tables.old) (state_of S.Store tables.new) (λ limits commands. (c : Accepted) → IsAccepted limits (commands ++ c ∷ []) → c.content ≡ Governs newer.now → IsSound newer.now → IfOk result (IsShownAnew commands (commands ++ c ∷ []))) }
+    ensures reads { ReadsOnlyIn S.Store tables.old tables.new result }
+    ensures shown { WhenOfCommands S.Store tables.old tables.new (λ limits commands. (c : Accepted) → IsAccepted limits (commands ++ c ∷ []) → c.content ≡ Governs newer.now → IsSound newer.now → IfOk result (IsShownAnew commands (commands ++ c ∷ []))) }
 {
     let members = read_dimensions(tables, alloc, newer)?;
     let profiles = renumbered_profiles(tables, alloc, format, &members.customers.types)?;
@@ -91,8 +91,8 @@ pub fn plan_migration<S: Alter>(
     newer: &Policy,
     command: CommandRow,
 ) -> Result<Edits, ReadFault>
-    ensures reads { ReadsOnly (state_of S.Store tables.old) (state_of S.Store tables.new) result }
-    ensures edits { Finds (state_of S.Store tables.old) (state_of S.Store tables.new) (λ limits commands. terms.now.format ≡ format_of commands → (c : Accepted) → IsAccepted limits (commands ++ c ∷ []) → c.content ≡ Governs newer.now → policy_after None commands ≡ Some terms.now.policy.now → IsSound newer.now → fits terms.now.policy.now newer.now ≡ true
+    ensures reads { ReadsOnlyIn S.Store tables.old tables.new result }
+    ensures edits { WhenOfCommands S.Store tables.old tables.new (λ limits commands. terms.now.format ≡ format_of commands → (c : Accepted) → IsAccepted limits (commands ++ c ∷ []) → c.content ≡ Governs newer.now → policy_after None commands ≡ Some terms.now.policy.now → IsSound newer.now → fits terms.now.policy.now newer.now ≡ true
         → command_at (commands ++ c ∷ []) (suc (length commands)) ≡ Some command → IfOk result (AreEdits commands (commands ++ c ∷ []))) }
     // Whatever is stored, a command that is planned writes its own row.
     ensures own { IfOk result (λ edits. length edits.commands ≡ 1) }

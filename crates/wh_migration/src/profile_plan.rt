@@ -8,11 +8,11 @@ ghost use Rattle.wh_history.specs.Accepted.{Accepted, described};
 ghost use Rattle.wh_history.specs.Known.{all_numbered};
 ghost use Rattle.wh_history.specs.Laws.{governs};
 ghost use Rattle.wh_history.specs.Profiles.{combinations_of};
-ghost use Rattle.wh_store.specs.Reads.{ReadsOnly, state_of};
+ghost use Rattle.wh_store.specs.Reads.{state_of, ReadsOnlyIn};
 ghost use Rattle.wh_migration.specs.Migration.{stored_by, profiles_shown, edits_of_profiles, IsRenumbered};
 ghost use Rattle.wh_plan.specs.Profiles.{with_combinations};
 ghost use Rattle.wh_plan.specs.Reading.{HaveNoEmptyValue};
-ghost use Rattle.wh_plan.specs.Reads.{Finds, Tells};
+ghost use Rattle.wh_plan.specs.Reads.{Tells, WhenOfCommands};
 ghost use Rattle.wh_model.specs.Sound.{AreTypes, IsAccepted};
 
 use sqlite::Alter;
@@ -61,7 +61,7 @@ fn combinations_stored<S: Alter>(
     format: Format,
     types: &[AttributeType],
 ) -> Result<Vec<Values>, ReadFault>
-    ensures reads { ReadsOnly (state_of S.Store tables.old) (state_of S.Store tables.new) result }
+    ensures reads { ReadsOnlyIn S.Store tables.old tables.new result }
     ensures stored { Tells (state_of S.Store tables.old) (state_of S.Store tables.new) result (λ t found. found.items ≡ with_combinations [] (flat_map (stored_by types.now) (values t.change))) }
 {
     let mut cursor = Cursor::new(alloc);
@@ -82,8 +82,8 @@ fn customer_combinations<S: Alter>(
     format: Format,
     types: &[AttributeType],
 ) -> Result<Vec<Values>, ReadFault>
-    ensures reads { ReadsOnly (state_of S.Store tables.old) (state_of S.Store tables.new) result }
-    ensures combinations { Finds (state_of S.Store tables.old) (state_of S.Store tables.new) (λ _ commands. HaveNoEmptyValue commands → IfOk result (λ found. found.items ≡ combinations_of types.now (described Customer commands))) }
+    ensures reads { ReadsOnlyIn S.Store tables.old tables.new result }
+    ensures combinations { WhenOfCommands S.Store tables.old tables.new (λ _ commands. HaveNoEmptyValue commands → IfOk result (λ found. found.items ≡ combinations_of types.now (described Customer commands))) }
 {
     let combinations = combinations_stored(tables, alloc, format, types)?;
     Ok(combinations)
@@ -129,8 +129,8 @@ pub(crate) fn renumbered_profiles<S: Alter>(
     format: Format,
     types: &[AttributeType],
 ) -> Result<RenumberedProfiles, ReadFault>
-    ensures reads { ReadsOnly (state_of S.Store tables.old) (state_of S.Store tables.new) result }
-    ensures renumbered { Finds (state_of S.Store tables.old) (state_of S.Store tables.new) (λ limits commands. (c : Accepted) → IsAccepted limits (commands ++ c ∷ []) → governs c.content ≡ true → AreTypes (commands ++ c ∷ []) Customer types.now → IfOk result (IsRenumbered commands (commands ++ c ∷ []))) }
+    ensures reads { ReadsOnlyIn S.Store tables.old tables.new result }
+    ensures renumbered { WhenOfCommands S.Store tables.old tables.new (λ limits commands. (c : Accepted) → IsAccepted limits (commands ++ c ∷ []) → governs c.content ≡ true → AreTypes (commands ++ c ∷ []) Customer types.now → IfOk result (IsRenumbered commands (commands ++ c ∷ []))) }
 {
     let combinations = customer_combinations(tables, alloc, format, types)?;
     let mut known = Profiles::new(alloc);

@@ -6,9 +6,9 @@ ghost use Rattle.wh_history.specs.declared.plan.Edit.TheVariants.{Put};
 ghost use Rattle.wh_model.specs.Defined.{command_at};
 ghost use Rattle.wh_model.specs.Sound.{IsAccepted};
 ghost use Rattle.wh_plan.specs.Edits.{AreEdits};
-ghost use Rattle.wh_plan.specs.Reads.{Finds};
+ghost use Rattle.wh_plan.specs.Reads.{WhenOfCommands};
 ghost use Rattle.wh_policy.specs.declared.format.Format.TheVariants.{One};
-ghost use Rattle.wh_store.specs.Reads.{ReadsOnly, state_of};
+ghost use Rattle.wh_store.specs.Reads.{ReadsOnlyIn};
 
 use sqlite::Alter;
 use std::alloc::{AllocError, Global};
@@ -42,8 +42,8 @@ pub fn plan_upgrade<S: Alter>(
     alloc: Global,
     command: CommandRow,
 ) -> Result<Edits, ReadFault>
-    ensures reads { ReadsOnly (state_of S.Store tables.old) (state_of S.Store tables.new) result }
-    ensures edits { Finds (state_of S.Store tables.old) (state_of S.Store tables.new) (λ limits commands. (c : Accepted) → c.content ≡ Upgrades → format_of commands ≡ One
+    ensures reads { ReadsOnlyIn S.Store tables.old tables.new result }
+    ensures edits { WhenOfCommands S.Store tables.old tables.new (λ limits commands. (c : Accepted) → c.content ≡ Upgrades → format_of commands ≡ One
         → command_at (commands ++ c ∷ []) (suc (length commands)) ≡ Some command → IfOk result (AreEdits commands (commands ++ c ∷ []))) }
     // Whatever is stored, a command that is planned writes its own row.
     ensures own { IfOk result (λ edits. length edits.commands ≡ 1) }

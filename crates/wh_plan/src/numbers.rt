@@ -3,8 +3,8 @@
 ghost use Rattle.std.specs.Prelude.{◌≡◌, ◌≤◌, length, IfOk};
 ghost use Rattle.wh_history.specs.Accepted.{anchors, members};
 ghost use Rattle.wh_history.specs.Keys.{greatest_number};
-ghost use Rattle.wh_store.specs.Reads.{ReadsOnly, state_of};
-ghost use Rattle.wh_plan.specs.Reads.{Finds};
+ghost use Rattle.wh_store.specs.Reads.{ReadsOnlyIn};
+ghost use Rattle.wh_plan.specs.Reads.{WhenOfCommands};
 
 use crate::reading::last_member;
 use sqlite::Alter;
@@ -28,8 +28,8 @@ pub(crate) fn numbers_drawn<S: Alter>(
     alloc: Global,
     dim: Dim,
 ) -> Result<NumbersDrawn, ReadFault>
-    ensures reads { ReadsOnly (state_of S.Store tables.old) (state_of S.Store tables.new) result }
-    ensures drawn { Finds (state_of S.Store tables.old) (state_of S.Store tables.new) (λ _ commands. length (members dim commands) ≤ greatest_number → length (anchors dim commands) ≤ greatest_number → IfOk result (λ drawn. drawn ≡ record { members = length (members dim commands); anchors = length (anchors dim commands) })) }
+    ensures reads { ReadsOnlyIn S.Store tables.old tables.new result }
+    ensures drawn { WhenOfCommands S.Store tables.old tables.new (λ _ commands. length (members dim commands) ≤ greatest_number → length (anchors dim commands) ≤ greatest_number → IfOk result (λ drawn. drawn ≡ record { members = length (members dim commands); anchors = length (anchors dim commands) })) }
     ensures few { IfOk result (λ drawn. (drawn.members ≤ greatest_number) × (drawn.anchors ≤ greatest_number)) }
 {
     let last = last_member(tables, alloc, dim)?;

@@ -10,8 +10,8 @@ ghost use Rattle.wh_history.specs.Keys.{greatest_number};
 ghost use Rattle.wh_history.specs.Known.{number_in, numbered_from, KnowsEnough};
 ghost use Rattle.wh_history.specs.Slots.{are_same};
 ghost use Rattle.wh_plan.specs.Profiles.{with_combination, with_combinations, told_of, said_of, said_by, number_kept, learned, is_none, unknown, row_of_profile, IsLearned};
-ghost use Rattle.wh_store.specs.Reads.{ReadsOnly, state_of};
-ghost use Rattle.wh_plan.specs.Reads.{Finds, Tells};
+ghost use Rattle.wh_store.specs.Reads.{state_of, ReadsOnlyIn};
+ghost use Rattle.wh_plan.specs.Reads.{Tells, WhenOfCommands};
 ghost use Rattle.wh_model.specs.Sound.{AreTypes, IsAccepted};
 
 use crate::records::batch::Batch;
@@ -119,7 +119,7 @@ fn number_kept<S: Alter>(
     alloc: Global,
     texts: &Values,
 ) -> Result<Option<u64>, ReadFault>
-    ensures reads { ReadsOnly (state_of S.Store tables.old) (state_of S.Store tables.new) result }
+    ensures reads { ReadsOnlyIn S.Store tables.old tables.new result }
     ensures number { Tells (state_of S.Store tables.old) (state_of S.Store tables.new) result (λ t number. number ≡ number_kept t.profile texts.now) }
 {
     let question = ProfileOf { values: texts };
@@ -148,7 +148,7 @@ fn looked_up<S: Alter>(
     alloc: Global,
     combinations: &[Values],
 ) -> Result<Profiles, ReadFault>
-    ensures reads { ReadsOnly (state_of S.Store tables.old) (state_of S.Store tables.new) result }
+    ensures reads { ReadsOnlyIn S.Store tables.old tables.new result }
     ensures known { Tells (state_of S.Store tables.old) (state_of S.Store tables.new) result (λ t known. known ≡ learned (number_kept t.profile) combinations.now) }
 {
     let mut known = Profiles::new(alloc);
@@ -209,8 +209,8 @@ pub fn add_fresh(
 
 /// The greatest number of a profile.
 fn profiles_given<S: Alter>(tables: &mut Tables<S>, alloc: Global) -> Result<u64, ReadFault>
-    ensures reads { ReadsOnly (state_of S.Store tables.old) (state_of S.Store tables.new) result }
-    ensures given { Finds (state_of S.Store tables.old) (state_of S.Store tables.new) (λ _ commands. suc (length (profiles_of commands)) ≤ greatest_number → IfOk result (λ given. given ≡ suc (length (profiles_of commands)))) }
+    ensures reads { ReadsOnlyIn S.Store tables.old tables.new result }
+    ensures given { WhenOfCommands S.Store tables.old tables.new (λ _ commands. suc (length (profiles_of commands)) ≤ greatest_number → IfOk result (λ given. given ≡ suc (length (profiles_of commands)))) }
     ensures few { IfOk result (λ given. given ≤ greatest_number) }
 {
     let mut found = tables.ask::<tables::Profile, Greatest>(alloc, &Greatest)?;
@@ -227,7 +227,7 @@ fn known_of_customers<S: Alter>(
     types: &[AttributeType],
     members: &[Member],
 ) -> Result<Profiles, ReadFault>
-    ensures reads { ReadsOnly (state_of S.Store tables.old) (state_of S.Store tables.new) result }
+    ensures reads { ReadsOnlyIn S.Store tables.old tables.new result }
     ensures known { Tells (state_of S.Store tables.old) (state_of S.Store tables.new) result (λ t known. known ≡ learned (number_kept t.profile) (with_combinations [] (said_by types.now members.now))) }
 {
     let mut combinations = Vec::new(alloc);
@@ -243,8 +243,8 @@ pub(crate) fn known_of<S: Alter>(
     types: &[AttributeType],
     members: &[Member],
 ) -> Result<Profiles, ReadFault>
-    ensures reads { ReadsOnly (state_of S.Store tables.old) (state_of S.Store tables.new) result }
-    ensures enough { Finds (state_of S.Store tables.old) (state_of S.Store tables.new) (λ _ commands. AreTypes commands dim types.now → IfOk result (λ known. AllByRecursion (KnowsEnough dim types.now (number_in known) (profiles_of commands)) members.now)) }
+    ensures reads { ReadsOnlyIn S.Store tables.old tables.new result }
+    ensures enough { WhenOfCommands S.Store tables.old tables.new (λ _ commands. AreTypes commands dim types.now → IfOk result (λ known. AllByRecursion (KnowsEnough dim types.now (number_in known) (profiles_of commands)) members.now)) }
 {
     match dim {
         Dim::Customer => known_of_customers(tables, alloc, types, members),
@@ -273,8 +273,8 @@ fn learned_of_customers<S: Alter>(
     batch: &Batch,
     touched: &[Member],
 ) -> Result<KnownProfiles, ReadFault>
-    ensures reads { ReadsOnly (state_of S.Store tables.old) (state_of S.Store tables.new) result }
-    ensures learned { Finds (state_of S.Store tables.old) (state_of S.Store tables.new) (λ limits commands. (c : Accepted) → IsAccepted limits (commands ++ c ∷ []) → c.content ≡ Describes Customer batch.now.records.now → AreTypes commands Customer batch.now.types.now → IfOk result (IsLearned Customer batch.now.types.now commands (commands ++ c ∷ []) touched.now)) }
+    ensures reads { ReadsOnlyIn S.Store tables.old tables.new result }
+    ensures learned { WhenOfCommands S.Store tables.old tables.new (λ limits commands. (c : Accepted) → IsAccepted limits (commands ++ c ∷ []) → c.content ≡ Describes Customer batch.now.records.now → AreTypes commands Customer batch.now.types.now → IfOk result (IsLearned Customer batch.now.types.now commands (commands ++ c ∷ []) touched.now)) }
 {
     let brought = combinations_told(alloc, batch.types, batch.records)?;
     let all = combinations_touched(alloc, batch.types, batch.records, touched)?;
@@ -292,8 +292,8 @@ pub(crate) fn learned_of<S: Alter>(
     batch: &Batch,
     touched: &[Member],
 ) -> Result<KnownProfiles, ReadFault>
-    ensures reads { ReadsOnly (state_of S.Store tables.old) (state_of S.Store tables.new) result }
-    ensures learned { Finds (state_of S.Store tables.old) (state_of S.Store tables.new) (λ limits commands. (c : Accepted) → IsAccepted limits (commands ++ c ∷ []) → c.content ≡ Describes batch.now.dim batch.now.records.now → AreTypes commands batch.now.dim batch.now.types.now → IfOk result (IsLearned batch.now.dim batch.now.types.now commands (commands ++ c ∷ []) touched.now)) }
+    ensures reads { ReadsOnlyIn S.Store tables.old tables.new result }
+    ensures learned { WhenOfCommands S.Store tables.old tables.new (λ limits commands. (c : Accepted) → IsAccepted limits (commands ++ c ∷ []) → c.content ≡ Describes batch.now.dim batch.now.records.now → AreTypes commands batch.now.dim batch.now.types.now → IfOk result (IsLearned batch.now.dim batch.now.types.now commands (commands ++ c ∷ []) touched.now)) }
 {
     match batch.dim {
         Dim::Customer => learned_of_customers(tables, alloc, batch, touched),

@@ -11,8 +11,8 @@ ghost use Rattle.wh_rows.specs.declared.table.Table.TheVariants.{Command};
 ghost use Rattle.wh_rows.specs.Questions.{has_id};
 ghost use Rattle.wh_rows.specs.Raw.{IsLastOf};
 ghost use Rattle.wh_rows.specs.Rows as row;
-ghost use Rattle.wh_store.specs.Reads.{ReadsOnly, SaysAsStored, state_of};
-ghost use Rattle.wh_plan.specs.Reads.{Finds, Tells};
+ghost use Rattle.wh_store.specs.Reads.{ReadsOnlyIn, WhenStored};
+ghost use Rattle.wh_plan.specs.Reads.{Tells, WhenOfCommands};
 
 use sqlite::Alter;
 use std::alloc::{AllocError, Global};
@@ -28,10 +28,10 @@ pub fn command_with<S: Alter>(
     alloc: Global,
     id: &Value,
 ) -> Result<Option<CommandRow>, ReadFault>
-    ensures reads { ReadsOnly (state_of S.Store tables.old) (state_of S.Store tables.new) result }
-    ensures command { Finds (state_of S.Store tables.old) (state_of S.Store tables.new) (λ _ commands. HaveDistinctIds commands → IfOk result (λ row. row ≡ command_with commands id.now)) }
+    ensures reads { ReadsOnlyIn S.Store tables.old tables.new result }
+    ensures command { WhenOfCommands S.Store tables.old tables.new (λ _ commands. HaveDistinctIds commands → IfOk result (λ row. row ≡ command_with commands id.now)) }
     // The same of any stored rows.
-    ensures stored { SaysAsStored (state_of S.Store tables.old) (state_of S.Store tables.new) (λ stored. IfOk result (IsLastOf row.command (filter (has_id id.now) (stored.rows Command)))) }
+    ensures stored { WhenStored S.Store tables.old tables.new (λ stored. IfOk result (IsLastOf row.command (filter (has_id id.now) (stored.rows Command)))) }
 {
     let mut found = tables.ask::<tables::Command, CommandOf<'_>>(alloc, &CommandOf { id })?;
     Ok(found.pop())
@@ -86,8 +86,8 @@ pub fn stored_changes<S: Alter>(
     dim: Dim,
     durable: u64,
 ) -> Result<Changes, ReadFault>
-    ensures reads { ReadsOnly (state_of S.Store tables.old) (state_of S.Store tables.new) result }
-    ensures changes { Finds (state_of S.Store tables.old) (state_of S.Store tables.new) (λ _ commands. HaveNoEmptyValue commands → (natural : List ℕ) → 0 < durable → durable ≡ durable_key dim commands natural → IfOk result (λ changes. changes ≡ changes_of dim commands natural)) }
+    ensures reads { ReadsOnlyIn S.Store tables.old tables.new result }
+    ensures changes { WhenOfCommands S.Store tables.old tables.new (λ _ commands. HaveNoEmptyValue commands → (natural : List ℕ) → 0 < durable → durable ≡ durable_key dim commands natural → IfOk result (λ changes. changes ≡ changes_of dim commands natural)) }
 {
     let rows = tables.ask::<tables::Change, RecordsOf>(alloc, &RecordsOf { dim, durable })?;
     Ok(changes_of_rows(alloc, &rows)?)
@@ -101,8 +101,8 @@ pub fn stored_member<S: Alter>(
     dim: Dim,
     natural: &Value,
 ) -> Result<Member, ReadFault>
-    ensures reads { ReadsOnly (state_of S.Store tables.old) (state_of S.Store tables.new) result }
-    ensures member { Finds (state_of S.Store tables.old) (state_of S.Store tables.new) (λ _ commands. HaveNoEmptyValue commands → IfOk result (λ member. member ≡ member_of dim commands natural.now)) }
+    ensures reads { ReadsOnlyIn S.Store tables.old tables.new result }
+    ensures member { WhenOfCommands S.Store tables.old tables.new (λ _ commands. HaveNoEmptyValue commands → IfOk result (λ member. member ≡ member_of dim commands natural.now)) }
 {
     let mut found = tables.ask::<tables::Member, MemberOf<'_>>(alloc, &MemberOf { dim, natural })?;
     match found.pop() {
@@ -123,10 +123,10 @@ pub fn stored_rows<S: Alter>(
     dim: Dim,
     durable: u64,
 ) -> Result<Vec<DimRow>, ReadFault>
-    ensures reads { ReadsOnly (state_of S.Store tables.old) (state_of S.Store tables.new) result }
-    ensures rows { Finds (state_of S.Store tables.old) (state_of S.Store tables.new) (λ _ commands. IfOk result (λ rows. rows.items ≡ rows_with dim commands durable)) }
+    ensures reads { ReadsOnlyIn S.Store tables.old tables.new result }
+    ensures rows { WhenOfCommands S.Store tables.old tables.new (λ _ commands. IfOk result (λ rows. rows.items ≡ rows_with dim commands durable)) }
     // Those with a member's durable key are the member's.
-    ensures member { Finds (state_of S.Store tables.old) (state_of S.Store tables.new) (λ _ commands. RecordsHaveDays commands → (natural : List ℕ) → 0 < durable → durable ≡ durable_key dim commands natural → IfOk result (λ rows. (key : ℕ) → row_of key rows.items ≡ row_of key (member_rows commands dim natural))) }
+    ensures member { WhenOfCommands S.Store tables.old tables.new (λ _ commands. RecordsHaveDays commands → (natural : List ℕ) → 0 < durable → durable ≡ durable_key dim commands natural → IfOk result (λ rows. (key : ℕ) → row_of key rows.items ≡ row_of key (member_rows commands dim natural))) }
 {
     let question = RowsOf { durable };
     match dim {
@@ -151,8 +151,8 @@ pub fn last_member<S: Alter>(
     alloc: Global,
     dim: Dim,
 ) -> Result<LastMember, ReadFault>
-    ensures reads { ReadsOnly (state_of S.Store tables.old) (state_of S.Store tables.new) result }
-    ensures last { Finds (state_of S.Store tables.old) (state_of S.Store tables.new) (λ _ commands. IfOk result (λ last. last ≡ record { durable = length (members dim commands); opening = last_opening dim commands })) }
+    ensures reads { ReadsOnlyIn S.Store tables.old tables.new result }
+    ensures last { WhenOfCommands S.Store tables.old tables.new (λ _ commands. IfOk result (λ last. last ≡ record { durable = length (members dim commands); opening = last_opening dim commands })) }
 {
     let mut found = tables.ask::<tables::Member, GreatestOf>(alloc, &GreatestOf { dim })?;
     match found.pop() {

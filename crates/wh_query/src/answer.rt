@@ -8,7 +8,7 @@ ghost use Rattle.wh_history.specs.Tables.{Limits};
 ghost use Rattle.wh_engine.specs.Answered.{IsReady};
 ghost use Rattle.wh_engine.specs.Scanned.{ReadsThrough};
 ghost use Rattle.wh_engine.specs.declared.fault.Fault.TheVariants as faults;
-ghost use Rattle.wh_store.specs.Reads.{SaysAtRest, SaysAsStored, state_of};
+ghost use Rattle.wh_store.specs.Reads.{state_of, WhenAtRest, WhenStored};
 ghost use Rattle.wh_report.specs.Output.{GoesOut, IsWorkedOut, IsOfTables, IsOfReport, of_warehouse};
 ghost use Rattle.wh_report.specs.Reported.{column_asked};
 ghost use Rattle.wh_report.specs.declared.output.ReportFault.TheVariants as report;
@@ -105,8 +105,8 @@ fn led_columns<S: Alter>(
 ) -> Result<Vec<LedColumn>, Fault>
     ensures reads { ReadsThrough engine.old.session engine.new.session (state_of S.Store engine.old.tables) (state_of S.Store engine.new.tables) result }
     ensures writes { engine.new.writes ≡ engine.old.writes }
-    ensures led { SaysAtRest (state_of S.Store engine.old.tables) (state_of S.Store engine.new.tables) (λ t. IfOk result (λ leds. map lead_of leds.items ≡ map (lead_in t) columns.now)) }
-    ensures stored { SaysAsStored (state_of S.Store engine.old.tables) (state_of S.Store engine.new.tables) (λ stored. IfOk result (λ leds. AreLeads stored columns.now (map lead_of leds.items))) }
+    ensures led { WhenAtRest S.Store engine.old.tables engine.new.tables (λ t. IfOk result (λ leds. map lead_of leds.items ≡ map (lead_in t) columns.now)) }
+    ensures stored { WhenStored S.Store engine.old.tables engine.new.tables (λ stored. IfOk result (λ leds. AreLeads stored columns.now (map lead_of leds.items))) }
 {
     let mut leds = Vec::new(alloc);
     'columns: for column in columns {
@@ -126,8 +126,8 @@ fn lines_of<'r, S: Alter>(
 ) -> Result<Lines<'r>, ReportFault>
     ensures reads { ReadsThrough engine.old.session engine.new.session (state_of S.Store engine.old.tables) (state_of S.Store engine.new.tables) (of_warehouse result) }
     ensures writes { engine.new.writes ≡ engine.old.writes }
-    ensures sums { SaysAtRest (state_of S.Store engine.old.tables) (state_of S.Store engine.new.tables) (λ t. SumsTables engine.old.session.format query.now (map lead_of filters.now) (map lead_of columns.now) t result) }
-    ensures stored { SaysAsStored (state_of S.Store engine.old.tables) (state_of S.Store engine.new.tables) (λ stored. SumsStored engine.old.session.format query.now (map lead_of filters.now) (map lead_of columns.now) stored result) }
+    ensures sums { WhenAtRest S.Store engine.old.tables engine.new.tables (λ t. SumsTables engine.old.session.format query.now (map lead_of filters.now) (map lead_of columns.now) t result) }
+    ensures stored { WhenStored S.Store engine.old.tables engine.new.tables (λ stored. SumsStored engine.old.session.format query.now (map lead_of filters.now) (map lead_of columns.now) stored result) }
     ensures kinds { IfErr result IsOfTables }
 {
     let mut sums = QuerySums::new(alloc, query, filters, columns);
@@ -149,8 +149,8 @@ fn answer_over<S: Alter>(
 ) -> Result<Vec<u8>, ReportFault>
     ensures reads { ReadsThrough engine.old.session engine.new.session (state_of S.Store engine.old.tables) (state_of S.Store engine.new.tables) (of_warehouse result) }
     ensures writes { engine.new.writes ≡ engine.old.writes }
-    ensures tables { SaysAtRest (state_of S.Store engine.old.tables) (state_of S.Store engine.new.tables) (λ t. AnswersTables engine.old.session.format query.now filters.now columns.now t result) }
-    ensures stored { SaysAsStored (state_of S.Store engine.old.tables) (state_of S.Store engine.new.tables) (λ stored. AnswersStored engine.old.session.format query.now filters.now columns.now stored result) }
+    ensures tables { WhenAtRest S.Store engine.old.tables engine.new.tables (λ t. AnswersTables engine.old.session.format query.now filters.now columns.now t result) }
+    ensures stored { WhenStored S.Store engine.old.tables engine.new.tables (λ stored. AnswersStored engine.old.session.format query.now filters.now columns.now stored result) }
     ensures kinds { IfErr result IsOfTables }
 {
     let format = engine.format();
@@ -175,10 +175,10 @@ pub fn query<S: Alter>(
     ensures reads { ReadsThrough engine.old.session engine.new.session (state_of S.Store engine.old.tables) (state_of S.Store engine.new.tables) (of_warehouse result) }
     ensures writes { engine.new.writes ≡ engine.old.writes }
     // Of any tables whose rows have values of their types, also of those that no warehouse made.
-    ensures tables { SaysAtRest (state_of S.Store engine.old.tables) (state_of S.Store engine.new.tables) (λ t.
+    ensures tables { WhenAtRest S.Store engine.old.tables engine.new.tables (λ t.
         AnswersTables engine.old.session.format query.now (columns_asked engine.old.session.policy (condition_columns query.now.conditions)) (columns_asked engine.old.session.policy query.now.columns) t result) }
     // And of any stored rows: of those that it reads none is damaged, in the columns that it reads.
-    ensures stored { SaysAsStored (state_of S.Store engine.old.tables) (state_of S.Store engine.new.tables) (λ stored.
+    ensures stored { WhenStored S.Store engine.old.tables engine.new.tables (λ stored.
         AnswersStored engine.old.session.format query.now (columns_asked engine.old.session.policy (condition_columns query.now.conditions)) (columns_asked engine.old.session.policy query.now.columns) stored result) }
     // Of the tables of accepted commands the text is that of the history.
     ensures answered { HasCleanDisk (state_of S.Store engine.new.tables) → (limits : Limits) (commands : List Accepted) → IsReady limits commands engine.old.session (state_of S.Store engine.old.tables)
@@ -206,9 +206,9 @@ pub fn write<S: Alter, W: Write>(
     requires { query_reads engine.old.session.policy asked.now ≡ true }
     ensures reads { ReadsThrough engine.old.session engine.new.session (state_of S.Store engine.old.tables) (state_of S.Store engine.new.tables) (of_warehouse result) }
     ensures writes { engine.new.writes ≡ engine.old.writes }
-    ensures tables { SaysAtRest (state_of S.Store engine.old.tables) (state_of S.Store engine.new.tables) (λ t.
+    ensures tables { WhenAtRest S.Store engine.old.tables engine.new.tables (λ t.
         IsWorkedOut (AnswersTables engine.old.session.format asked.now (columns_asked engine.old.session.policy (condition_columns asked.now.conditions)) (columns_asked engine.old.session.policy asked.now.columns) t) result (W.contents out.old) (W.contents out.new)) }
-    ensures stored { SaysAsStored (state_of S.Store engine.old.tables) (state_of S.Store engine.new.tables) (λ stored.
+    ensures stored { WhenStored S.Store engine.old.tables engine.new.tables (λ stored.
         IsWorkedOut (AnswersStored engine.old.session.format asked.now (columns_asked engine.old.session.policy (condition_columns asked.now.conditions)) (columns_asked engine.old.session.policy asked.now.columns) stored) result (W.contents out.old) (W.contents out.new)) }
     ensures answered { HasCleanDisk (state_of S.Store engine.new.tables) → (limits : Limits) (commands : List Accepted) → IsReady limits commands engine.old.session (state_of S.Store engine.old.tables)
         → IsWorkedOut (Answers commands asked.now) result (W.contents out.old) (W.contents out.new) }

@@ -4,7 +4,7 @@ ghost use Rattle.std.specs.Prelude.{◌≡◌, List, None, IsTrue, IfSome, IfOk}
 ghost use Rattle.std.specs.FinMap.{values};
 ghost use Rattle.wh_policy.specs.declared.attribute.Dim.TheVariants.{Customer};
 ghost use Rattle.wh_engine.specs.Scanned.{EngineReads, IsServing, ReadsThrough, WhenReady};
-ghost use Rattle.wh_store.specs.Reads.{SaysAtRest, SaysAsStored, state_of};
+ghost use Rattle.wh_store.specs.Reads.{state_of, WhenAtRest, WhenStored};
 ghost use Rattle.wh_rows.specs.Keys.{bind_number};
 ghost use Rattle.wh_store.specs.Scan.{HandsOut, HandsOutOf, AreValid};
 ghost use Rattle.wh_day.specs.declared.calendar.DateRow.{DateRow};
@@ -33,9 +33,9 @@ fn next_of_dimension<S: Alter>(
 ) -> Result<Option<DimRow>, Fault>
     ensures reads { EngineReads S.Store engine.old engine.new result }
     ensures serves { WhenReady S.Store engine.old engine.new (λ limits commands. IsServing limits commands result) }
-    ensures rows { SaysAtRest (state_of S.Store engine.old.tables) (state_of S.Store engine.new.tables) (λ t. IfOk result (λ found. HandsOut (left_of_dim dim t cursor.old) found (left_of_dim dim t cursor.new))) }
-    ensures stored { SaysAsStored (state_of S.Store engine.old.tables) (state_of S.Store engine.new.tables) (λ stored. IfOk result (λ found. HandsOutOf (layout_of_dim dim) bind_number (stored.rows (table_of_dim dim)) cursor.old found cursor.new)) }
-    ensures valid { SaysAsStored (state_of S.Store engine.old.tables) (state_of S.Store engine.new.tables) (λ _. AreValid (layout_of_dim dim) cursor.old → IfOk result (λ found. IfSome found (λ row. IsTrue ((layout_of_dim dim).is_valid row)) × AreValid (layout_of_dim dim) cursor.new)) }
+    ensures rows { WhenAtRest S.Store engine.old.tables engine.new.tables (λ t. IfOk result (λ found. HandsOut (left_of_dim dim t cursor.old) found (left_of_dim dim t cursor.new))) }
+    ensures stored { WhenStored S.Store engine.old.tables engine.new.tables (λ stored. IfOk result (λ found. HandsOutOf (layout_of_dim dim) bind_number (stored.rows (table_of_dim dim)) cursor.old found cursor.new)) }
+    ensures valid { WhenStored S.Store engine.old.tables engine.new.tables (λ _. AreValid (layout_of_dim dim) cursor.old → IfOk result (λ found. IfSome found (λ row. IsTrue ((layout_of_dim dim).is_valid row)) × AreValid (layout_of_dim dim) cursor.new)) }
 {
     match dim {
         Dim::Product => engine.next_row::<tables::Product>(alloc, cursor),
@@ -54,8 +54,8 @@ fn labels_of_rows<S: Alter>(
 ) -> Result<Labels, Fault>
     ensures reads { ReadsThrough engine.old.session engine.new.session (state_of S.Store engine.old.tables) (state_of S.Store engine.new.tables) result }
     ensures writes { engine.new.writes ≡ engine.old.writes }
-    ensures labels { SaysAtRest (state_of S.Store engine.old.tables) (state_of S.Store engine.new.tables) (λ t. IfOk result (λ labels. AreLabels labels (row_labels column (labels_get profiles.now) (rows_of_dim dim t)))) }
-    ensures stored { SaysAsStored (state_of S.Store engine.old.tables) (state_of S.Store engine.new.tables) (λ stored. IfOk result (λ labels. (rows : List Member) × AreAllOfDim dim stored rows × AreLabels labels (row_labels column (labels_get profiles.now) rows))) }
+    ensures labels { WhenAtRest S.Store engine.old.tables engine.new.tables (λ t. IfOk result (λ labels. AreLabels labels (row_labels column (labels_get profiles.now) (rows_of_dim dim t)))) }
+    ensures stored { WhenStored S.Store engine.old.tables engine.new.tables (λ stored. IfOk result (λ labels. (rows : List Member) × AreAllOfDim dim stored rows × AreLabels labels (row_labels column (labels_get profiles.now) rows))) }
 {
     let mut cursor = Cursor::new(alloc);
     let mut labels = Labels::new(alloc);
@@ -76,8 +76,8 @@ fn labels_of_profiles<S: Alter>(
 ) -> Result<Labels, Fault>
     ensures reads { ReadsThrough engine.old.session engine.new.session (state_of S.Store engine.old.tables) (state_of S.Store engine.new.tables) result }
     ensures writes { engine.new.writes ≡ engine.old.writes }
-    ensures labels { SaysAtRest (state_of S.Store engine.old.tables) (state_of S.Store engine.new.tables) (λ t. IfOk result (λ labels. AreLabels labels (profile_labels column (values t.profile)))) }
-    ensures stored { SaysAsStored (state_of S.Store engine.old.tables) (state_of S.Store engine.new.tables) (λ stored. IfOk result (λ labels. (rows : List ProfileRow) × AreAllProfiles stored rows × AreLabels labels (profile_labels column rows))) }
+    ensures labels { WhenAtRest S.Store engine.old.tables engine.new.tables (λ t. IfOk result (λ labels. AreLabels labels (profile_labels column (values t.profile)))) }
+    ensures stored { WhenStored S.Store engine.old.tables engine.new.tables (λ stored. IfOk result (λ labels. (rows : List ProfileRow) × AreAllProfiles stored rows × AreLabels labels (profile_labels column rows))) }
 {
     let mut cursor = Cursor::new(alloc);
     let mut labels = Labels::new(alloc);
@@ -98,8 +98,8 @@ fn labels_of_days<S: Alter>(
 ) -> Result<Labels, Fault>
     ensures reads { ReadsThrough engine.old.session engine.new.session (state_of S.Store engine.old.tables) (state_of S.Store engine.new.tables) result }
     ensures writes { engine.new.writes ≡ engine.old.writes }
-    ensures labels { SaysAtRest (state_of S.Store engine.old.tables) (state_of S.Store engine.new.tables) (λ t. IfOk result (λ labels. AreLabels labels (date_labels column (values t.calendar)))) }
-    ensures stored { SaysAsStored (state_of S.Store engine.old.tables) (state_of S.Store engine.new.tables) (λ stored. IfOk result (λ labels. (rows : List DateRow) × AreAllDays stored rows × AreLabels labels (date_labels column rows))) }
+    ensures labels { WhenAtRest S.Store engine.old.tables engine.new.tables (λ t. IfOk result (λ labels. AreLabels labels (date_labels column (values t.calendar)))) }
+    ensures stored { WhenStored S.Store engine.old.tables engine.new.tables (λ stored. IfOk result (λ labels. (rows : List DateRow) × AreAllDays stored rows × AreLabels labels (date_labels column rows))) }
 {
     let mut cursor = Cursor::new(alloc);
     let mut labels = Labels::new(alloc);
@@ -121,8 +121,8 @@ fn labels_of_dimension<S: Alter>(
 ) -> Result<Labels, Fault>
     ensures reads { ReadsThrough engine.old.session engine.new.session (state_of S.Store engine.old.tables) (state_of S.Store engine.new.tables) result }
     ensures writes { engine.new.writes ≡ engine.old.writes }
-    ensures labels { SaysAtRest (state_of S.Store engine.old.tables) (state_of S.Store engine.new.tables) (λ t. IfOk result (λ labels. AreLabels labels (row_labels column (λ _. None) (rows_of_dim dim t)))) }
-    ensures stored { SaysAsStored (state_of S.Store engine.old.tables) (state_of S.Store engine.new.tables) (λ stored. IfOk result (λ labels. (rows : List Member) × AreAllOfDim dim stored rows × AreLabels labels (row_labels column (λ _. None) rows))) }
+    ensures labels { WhenAtRest S.Store engine.old.tables engine.new.tables (λ t. IfOk result (λ labels. AreLabels labels (row_labels column (λ _. None) (rows_of_dim dim t)))) }
+    ensures stored { WhenStored S.Store engine.old.tables engine.new.tables (λ stored. IfOk result (λ labels. (rows : List Member) × AreAllOfDim dim stored rows × AreLabels labels (row_labels column (λ _. None) rows))) }
 {
     let no_profiles = Labels::new(alloc);
     labels_of_rows(alloc, engine, column, dim, &no_profiles)
@@ -136,8 +136,8 @@ fn labels_by_profiles<S: Alter>(
 ) -> Result<Labels, Fault>
     ensures reads { ReadsThrough engine.old.session engine.new.session (state_of S.Store engine.old.tables) (state_of S.Store engine.new.tables) result }
     ensures writes { engine.new.writes ≡ engine.old.writes }
-    ensures labels { SaysAtRest (state_of S.Store engine.old.tables) (state_of S.Store engine.new.tables) (λ t. IfOk result (λ labels. AreLabels labels (row_labels column (λ number. first_text number (profile_labels column (values t.profile))) (values t.customer)))) }
-    ensures stored { SaysAsStored (state_of S.Store engine.old.tables) (state_of S.Store engine.new.tables) (λ stored. IfOk result (λ labels. (rows : List Member) × AreAllOfDim Customer stored rows × ((profiles : List ProfileRow) × AreAllProfiles stored profiles × AreLabels labels (row_labels column (λ number. first_text number (profile_labels column profiles)) rows)))) }
+    ensures labels { WhenAtRest S.Store engine.old.tables engine.new.tables (λ t. IfOk result (λ labels. AreLabels labels (row_labels column (λ number. first_text number (profile_labels column (values t.profile))) (values t.customer)))) }
+    ensures stored { WhenStored S.Store engine.old.tables engine.new.tables (λ stored. IfOk result (λ labels. (rows : List Member) × AreAllOfDim Customer stored rows × ((profiles : List ProfileRow) × AreAllProfiles stored profiles × AreLabels labels (row_labels column (λ number. first_text number (profile_labels column profiles)) rows)))) }
 {
     let profiles = labels_of_profiles(alloc, engine, column)?;
     labels_of_rows(alloc, engine, column, Dim::Customer, &profiles)
@@ -151,8 +151,8 @@ pub fn labels_of<S: Alter>(
 ) -> Result<Labels, Fault>
     ensures reads { ReadsThrough engine.old.session engine.new.session (state_of S.Store engine.old.tables) (state_of S.Store engine.new.tables) result }
     ensures writes { engine.new.writes ≡ engine.old.writes }
-    ensures labels { SaysAtRest (state_of S.Store engine.old.tables) (state_of S.Store engine.new.tables) (λ t. IfOk result (λ labels. AreLabels labels (labels_in column (label_rows column t)))) }
-    ensures stored { SaysAsStored (state_of S.Store engine.old.tables) (state_of S.Store engine.new.tables) (λ stored. IfOk result (λ labels. (t : LabelRows) × AreAllFor column stored t × AreLabels labels (labels_in column t))) }
+    ensures labels { WhenAtRest S.Store engine.old.tables engine.new.tables (λ t. IfOk result (λ labels. AreLabels labels (labels_in column (label_rows column t)))) }
+    ensures stored { WhenStored S.Store engine.old.tables engine.new.tables (λ stored. IfOk result (λ labels. (t : LabelRows) × AreAllFor column stored t × AreLabels labels (labels_in column t))) }
 {
     match column {
         LabelColumn::Main(dim, _) => labels_of_dimension(alloc, engine, column, dim),

@@ -5,7 +5,7 @@ ghost use Rattle.std.specs.FinMap.{values};
 ghost use Rattle.wh_engine.specs.Scanned.{ReadsThrough};
 ghost use Rattle.wh_rows.specs.Facts.{facts_in, facts_table};
 ghost use Rattle.wh_rows.specs.declared.keyed_sale.KeyedSale.{KeyedSale};
-ghost use Rattle.wh_store.specs.Reads.{SaysAtRest, SaysAsStored, state_of};
+ghost use Rattle.wh_store.specs.Reads.{state_of, WhenAtRest, WhenStored};
 ghost use Rattle.wh_report.specs.Labels.{labels_get};
 ghost use Rattle.wh_report.specs.Output.{IsOfTables, of_warehouse};
 ghost use Rattle.wh_report.specs.Reported.{IsSummed, IsSummedOf, uncounted};
@@ -92,8 +92,8 @@ pub(crate) fn summary_of<S: Alter>(
 ) -> Result<Summary, ReportFault>
     ensures reads { ReadsThrough engine.old.session engine.new.session (state_of S.Store engine.old.tables) (state_of S.Store engine.new.tables) (of_warehouse result) }
     ensures writes { engine.new.writes ≡ engine.old.writes }
-    ensures sums { SaysAtRest (state_of S.Store engine.old.tables) (state_of S.Store engine.new.tables) (λ t. IsSummed engine.old.session.format request.now column (labels_get labels.now) (values (facts_in engine.old.session.format t)) result) }
-    ensures stored { SaysAsStored (state_of S.Store engine.old.tables) (state_of S.Store engine.new.tables) (λ stored. IsSummedOf engine.old.session.format request.now column (labels_get labels.now) stored result) }
+    ensures sums { WhenAtRest S.Store engine.old.tables engine.new.tables (λ t. IsSummed engine.old.session.format request.now column (labels_get labels.now) (values (facts_in engine.old.session.format t)) result) }
+    ensures stored { WhenStored S.Store engine.old.tables engine.new.tables (λ stored. IsSummedOf engine.old.session.format request.now column (labels_get labels.now) stored result) }
     ensures only { IfErr result IsOfTables }
 {
     let mut sums = FactSums {

@@ -6,7 +6,7 @@ ghost use Rattle.wh_history.specs.Accepted.{Accepted};
 ghost use Rattle.wh_history.specs.Tables.{Limits};
 ghost use Rattle.wh_engine.specs.Answered.{IsReady};
 ghost use Rattle.wh_engine.specs.Scanned.{ReadsThrough};
-ghost use Rattle.wh_store.specs.Reads.{SaysAtRest, SaysAsStored, state_of};
+ghost use Rattle.wh_store.specs.Reads.{state_of, WhenAtRest, WhenStored};
 ghost use Rattle.wh_report.specs.Joined.{column_of};
 ghost use Rattle.wh_report.specs.Output.{GoesOut, IsWorkedOut, IsOfTables, IsOfReport, of_warehouse};
 ghost use Rattle.wh_report.specs.Reported.{ReportsTables, ReportsStored, Reports, column_asked};
@@ -51,8 +51,8 @@ fn report_over<S: Alter>(
 ) -> Result<Vec<u8>, ReportFault>
     ensures reads { ReadsThrough engine.old.session engine.new.session (state_of S.Store engine.old.tables) (state_of S.Store engine.new.tables) (of_warehouse result) }
     ensures writes { engine.new.writes ≡ engine.old.writes }
-    ensures tables { SaysAtRest (state_of S.Store engine.old.tables) (state_of S.Store engine.new.tables) (λ t. ReportsTables engine.old.session.format request.now column t result) }
-    ensures stored { SaysAsStored (state_of S.Store engine.old.tables) (state_of S.Store engine.new.tables) (λ stored. ReportsStored engine.old.session.format request.now column stored result) }
+    ensures tables { WhenAtRest S.Store engine.old.tables engine.new.tables (λ t. ReportsTables engine.old.session.format request.now column t result) }
+    ensures stored { WhenStored S.Store engine.old.tables engine.new.tables (λ stored. ReportsStored engine.old.session.format request.now column stored result) }
     ensures kinds { IfErr result IsOfTables }
 {
     let labels = labels_of(alloc, engine, column)?;
@@ -73,10 +73,10 @@ pub fn report<S: Alter>(
     ensures reads { ReadsThrough engine.old.session engine.new.session (state_of S.Store engine.old.tables) (state_of S.Store engine.new.tables) (of_warehouse result) }
     ensures writes { engine.new.writes ≡ engine.old.writes }
     // Of any tables whose rows have values of their types, also of those that no warehouse made.
-    ensures tables { SaysAtRest (state_of S.Store engine.old.tables) (state_of S.Store engine.new.tables) (λ t. (subject : Subject) (which : Reading)
+    ensures tables { WhenAtRest S.Store engine.old.tables engine.new.tables (λ t. (subject : Subject) (which : Reading)
         → subject_in engine.old.session.policy request.now.words ≡ Some subject → reading_of subject request.now.mode ≡ Some which → ReportsTables engine.old.session.format request.now (column_of subject which) t result) }
     // And of any stored rows: of those that it reads none is damaged, in the columns that it reads.
-    ensures stored { SaysAsStored (state_of S.Store engine.old.tables) (state_of S.Store engine.new.tables) (λ stored. (subject : Subject) (which : Reading)
+    ensures stored { WhenStored S.Store engine.old.tables engine.new.tables (λ stored. (subject : Subject) (which : Reading)
         → subject_in engine.old.session.policy request.now.words ≡ Some subject → reading_of subject request.now.mode ≡ Some which → ReportsStored engine.old.session.format request.now (column_of subject which) stored result) }
     // Of the tables of accepted commands the text is that of the history.
     ensures reported { HasCleanDisk (state_of S.Store engine.new.tables) → (limits : Limits) (commands : List Accepted) → IsReady limits commands engine.old.session (state_of S.Store engine.old.tables)
@@ -120,9 +120,9 @@ pub fn write<S: Alter, W: Write>(
     requires { has_reading engine.old.session.policy request.now ≡ true }
     ensures reads { ReadsThrough engine.old.session engine.new.session (state_of S.Store engine.old.tables) (state_of S.Store engine.new.tables) (of_warehouse result) }
     ensures writes { engine.new.writes ≡ engine.old.writes }
-    ensures tables { SaysAtRest (state_of S.Store engine.old.tables) (state_of S.Store engine.new.tables) (λ t. (subject : Subject) (which : Reading)
+    ensures tables { WhenAtRest S.Store engine.old.tables engine.new.tables (λ t. (subject : Subject) (which : Reading)
         → subject_in engine.old.session.policy request.now.words ≡ Some subject → reading_of subject request.now.mode ≡ Some which → IsWorkedOut (ReportsTables engine.old.session.format request.now (column_of subject which) t) result (W.contents out.old) (W.contents out.new)) }
-    ensures stored { SaysAsStored (state_of S.Store engine.old.tables) (state_of S.Store engine.new.tables) (λ stored. (subject : Subject) (which : Reading)
+    ensures stored { WhenStored S.Store engine.old.tables engine.new.tables (λ stored. (subject : Subject) (which : Reading)
         → subject_in engine.old.session.policy request.now.words ≡ Some subject → reading_of subject request.now.mode ≡ Some which → IsWorkedOut (ReportsStored engine.old.session.format request.now (column_of subject which) stored) result (W.contents out.old) (W.contents out.new)) }
     ensures reported { HasCleanDisk (state_of S.Store engine.new.tables) → (limits : Limits) (commands : List Accepted) → IsReady limits commands engine.old.session (state_of S.Store engine.old.tables)
         → IsWorkedOut (Reports commands request.now) result (W.contents out.old) (W.contents out.new) }

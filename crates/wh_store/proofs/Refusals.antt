@@ -1,4 +1,5 @@
 -- Which statement the database refused.
+use Rattle.std.specs.Prelude.{Result, Ok, Err, IfErr}
 use Rattle.std.proofs.Common.{◌≡◌, ℕ, zero, suc, ◌<◌, ◌≤◌, List, [], ◌∷◌, map, length, get_or, inl, inr, subst, arith}
 use Rattle.sqlite_value.specs.declared.value.Value.TheVariants.{Text}
 use Rattle.sqlite.specs.Order.{Row}
@@ -62,3 +63,12 @@ text_refused store old new limits cause one = record {
   since = one.since;
   refused = one.refused;
 }
+
+-- what is so of an error on a condition is so of the error, on that condition
+pub err_if : {A : Type 0} {E : Type 0} (r : Result A E) (when : Type 0) (F : E → Type 0) → (when → IfErr r F) → IfErr r (λ e. when → F e)
+err_if (Ok a) when F so = tt
+err_if (Err e) when F so = so
+
+pub err_if_any : {A V : Type 0} {E : Type 0} (r : Result A E) (P Q : V → Type 0) (F : E → Type 0) → ((v : V) → P v → Q v → IfErr r F) → IfErr r (λ e. (v : V) → P v → Q v → F e)
+err_if_any (Ok a) P Q F so = tt
+err_if_any (Err e) P Q F so = so

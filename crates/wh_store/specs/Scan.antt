@@ -1,5 +1,5 @@
 -- The rows that a scan has still to hand out.
-use Rattle.std.specs.Prelude.{◌≡◌, List, [], ◌∷◌, ◌++◌, map, filter, Bool, true, false, Option, None, Some, Result, if◌then◌else◌, IsTrue, IfErr}
+use Rattle.std.specs.Prelude.{Ok, IfOk, OnErr, ◌≡◌, List, [], ◌∷◌, ◌++◌, map, filter, Bool, true, false, Option, None, Some, Result, if◌then◌else◌, IsTrue, IfErr}
 use Rattle.std.specs.List.{list_all}
 use Rattle.std.specs.FinMap.{FinMap, values}
 use Rattle.std.specs.Vec.Iter.{into_iter_items}
@@ -10,9 +10,12 @@ use Rattle.wh_rows.specs.Holds.{Layout}
 use Rattle.wh_rows.specs.Parts.{PartTexts, forward, part_text, bind_part, is_behind, stands_behind, IsArranged}
 use Rattle.wh_rows.specs.declared.table.Table.{Table}
 use Rattle.wh_sql.specs.Page.{HasKey}
-use Rattle.wh_sql.specs.Reads.{IsOfAskedDamage, FailsToShow}
+use Rattle.wh_policy.specs.declared.format.Format.{Format}
+use Rattle.wh_rows.specs.Names.{is_there}
+use Rattle.wh_rows.specs.Tables.{Tables as TypedTables}
+use Rattle.wh_sql.specs.Reads.{IsOfAskedDamage, FailsToShow, ReadsOnly}
 use Rattle.wh_sql.specs.declared.fault.ReadFault.{ReadFault}
-use Rattle.wh_store.specs.Reads.{state_of, SaysAsStored}
+use Rattle.wh_store.specs.Reads.{state_of, SaysAsStored, SaysInFormat, SaysAsStoredIn}
 use Rattle.wh_store.specs.declared.scan.Cursor.{Cursor}
 use Rattle.wh_store.specs.declared.tables.Tables.{Tables}
 
@@ -67,3 +70,19 @@ FailsToShowPart g layout table texts bind after old new result =
 abbrev pub IsOfDamagedPart : {S K V A : Type 0} → Ghosts S → Layout K V → Table → PartTexts → (K → Row) → Option K → Tables S → Tables S → Result A ReadFault → Type 0
 IsOfDamagedPart g layout table texts bind after old new result =
     SaysAsStored (state_of g old) (state_of g new) (λ stored. IfErr result (IsOfAskedDamage (Some (forward texts.most)) layout table (filter (stands_behind layout bind after) (stored.rows table))))
+
+-- ---- a step of a scan
+
+-- The next row of a table is handed out, or none is left, or the part that it is in isn't read. Of any stored rows none is missed, and none comes twice.
+pub record ScansOn {S K V : Type 0} (g : Ghosts S) (name : Table) (layout : Layout K V) (rows_in : TypedTables → FinMap layout.order V) (texts : PartTexts) (bind : K → Row) (format : Format) (old new : Tables S) (before after : Cursor K V) (result : Result (Option V) ReadFault) : Type 0 where
+  pub reads : ReadsOnly (state_of g old) (state_of g new) result
+  pub rows : SaysInFormat g name format old new (λ t. IfOk result (λ found. HandsOut (rows_left layout (rows_in t) before) found (rows_left layout (rows_in t) after)))
+  pub stored : SaysAsStoredIn g name format old new (λ stored. IfOk result (λ found. HandsOutOf layout bind (stored.rows name) before found after))
+  -- a damaged row is reported with the part that it is in
+  pub damaged : IsOfDamagedPart g layout name texts bind before.unread.after old new result
+  pub refused : FailsToShowPart g layout name texts bind before.unread.after old new result
+  pub keyed : SaysAsStoredIn g name format old new (λ _. HasKey layout before.unread.after → IfOk result (λ _. HasKey layout after.unread.after))
+  pub ended : OnErr result (IsOver after)
+  pub over : IsOver before → (result ≡ Ok None) × (new ≡ old) × IsOver after
+  -- of a table that the format hasn't nothing is asked
+  pub absent : is_there name format ≡ false → into_iter_items before.ahead ≡ [] → (result ≡ Ok None) × (new ≡ old) × (into_iter_items after.ahead ≡ [])

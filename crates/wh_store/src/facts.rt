@@ -23,8 +23,8 @@ ghost use Rattle.wh_sql.specs.Picked.{StandFor, FailsToShowSome};
 ghost use Rattle.wh_sql.specs.Reads.{FailsToShow, FailsToCount};
 ghost use Rattle.wh_store.specs.Edits.{with_edit, statement_of, IsOfTypes, IsValid, Puts};
 ghost use Rattle.wh_store.specs.FactTexts.{fact_texts, since_asked, inserting};
-ghost use Rattle.wh_store.specs.Reads.{state_of, ReadsOnly, SaysAtRest, SaysAsStored, IsOfDamage};
-ghost use Rattle.wh_store.specs.Writes.{WritesOnly, Makes, NotesRefusals};
+ghost use Rattle.wh_store.specs.Reads.{state_of, ReadsOnly, SaysAtRest, SaysAsStored, IsOfDamage, Answers, ListsRows, AsksRows, FindsRow, TalliesRows, CountsRows};
+ghost use Rattle.wh_store.specs.Writes.{WritesOnly, Makes, NotesRefusals, MakesEdit, MakesEdits, InsertsRows};
 
 use crate::tables::Tables;
 use crate::writing::Writing;
@@ -44,12 +44,7 @@ impl<S: Alter> Tables<S> {
         format: Format,
         line: &LineKey,
     ) -> Result<Option<Fact>, ReadFault>
-        ensures reads { ReadsOnly (state_of S.Store self.old) (state_of S.Store self.new) result }
-        ensures row { SaysAtRest (state_of S.Store self.old) (state_of S.Store self.new) (λ t. IfOk result (λ row. row ≡ get (facts_in format t) line.now)) }
-        // Only the rows that are stored at the line count, whatever the others hold.
-        ensures stored { SaysAsStored (state_of S.Store self.old) (state_of S.Store self.new) (λ stored. IfOk result (IsLastOf (fact_layout format) (filter (stands_at_line line.now) (stored.rows (facts_table format))))) }
-        ensures damaged { SaysAsStored (state_of S.Store self.old) (state_of S.Store self.new) (λ stored. IfErr result (IsOfDamage (fact_layout format) (facts_table format) (filter (stands_at_line line.now) (stored.rows (facts_table format))))) }
-        ensures refused { HasCleanDisk (state_of S.Store self.new) → (row : Fact) → IsTrue ((fact_layout format).is_valid row) → (fact_layout format).key row ≡ line.now → IfErr result (FailsToShow (fact_layout format) (facts_table format) (fact_texts format).get (bind_line line.now) (state_of S.Store self.old) (state_of S.Store self.new)) }
+        ensures { FindsRow S.Store self.old self.new (facts_table format) (fact_layout format) (λ t. get (facts_in format t) line.now) stands_at_line bind_line (fact_texts format).get line.now result }
     {
         match format {
             Format::One => get::<tables::Fact, S>(alloc, &mut self.conn, line),
@@ -59,11 +54,7 @@ impl<S: Alter> Tables<S> {
 
     /// How many facts of the format there are: sales that stand, as withdrawn ones have no row. `Store(Size)`: more than the database counts.
     pub fn count_facts(&mut self, alloc: Global, format: Format) -> Result<u64, ReadFault>
-        ensures reads { ReadsOnly (state_of S.Store self.old) (state_of S.Store self.new) result }
-        ensures count { SaysAtRest (state_of S.Store self.old) (state_of S.Store self.new) (λ t. IfOk result (λ count. count ≡ len (facts_in format t))) }
-        // It counts every row that is stored, a damaged one too.
-        ensures stored { SaysAsStored (state_of S.Store self.old) (state_of S.Store self.new) (λ stored. IfOk result (λ count. count ≡ length (stored.rows (facts_table format)))) }
-        ensures refused { SaysAtRest (state_of S.Store self.old) (state_of S.Store self.new) (λ t. IfErr result (FailsToCount (len (facts_in format t)) (fact_texts format).count (state_of S.Store self.old) (state_of S.Store self.new))) }
+        ensures { CountsRows S.Store self.old self.new (facts_table format) (λ t. len (facts_in format t)) (fact_texts format).count result }
     {
         match format {
             Format::One => count::<tables::Fact, S>(alloc, &mut self.conn),
@@ -81,12 +72,9 @@ impl<S: Alter> Tables<S> {
         members: &M,
         from: Day,
     ) -> Result<Vec<Fact>, ReadFault>
-        ensures reads { ReadsOnly (state_of S.Store self.old) (state_of S.Store self.new) result }
-        ensures facts { SaysAtRest (state_of S.Store self.old) (state_of S.Store self.new) (λ t. IfOk result (λ facts. IsPermutation (filter (is_sold_of (M.among members.now) dim from) (values (facts_in format t))) facts.items)) }
-        // No other row keeps these from being read.
-        ensures stored { SaysAsStored (state_of S.Store self.old) (state_of S.Store self.new) (λ stored. IfOk result (λ facts. StandFor (fact_layout format) (filter (is_sale_of (M.among members.now) dim from) (stored.rows (facts_table format))) facts.items)) }
-        ensures damaged { SaysAsStored (state_of S.Store self.old) (state_of S.Store self.new) (λ stored. IfErr result (IsOfDamage (fact_layout format) (facts_table format) (filter (is_sale_of (M.among members.now) dim from) (stored.rows (facts_table format))))) }
-        ensures refused { HasCleanDisk (state_of S.Store self.new) → IfErr result (FailsToShowSome (fact_layout format) (facts_table format) (is_of_members (M.among members.now) dim) (since_asked format) (Int (pos from) ∷ []) (state_of S.Store self.old) (state_of S.Store self.new)) }
+        ensures { Answers S.Store self.old self.new result (λ t facts. IsPermutation (filter (is_sold_of (M.among members.now) dim from) (values (facts_in format t))) facts.items) (λ stored facts. StandFor (fact_layout format) (filter (is_sale_of (M.among members.now) dim from) (stored.rows (facts_table format))) facts.items)
+            (λ stored. IsOfDamage (fact_layout format) (facts_table format) (filter (is_sale_of (M.among members.now) dim from) (stored.rows (facts_table format))))
+            (FailsToShowSome (fact_layout format) (facts_table format) (is_of_members (M.among members.now) dim) (since_asked format) (Int (pos from) ∷ []) (state_of S.Store self.old) (state_of S.Store self.new)) }
     {
         match format {
             Format::One => {
@@ -107,13 +95,7 @@ impl<'t, S: Alter> Writing<'t, S> {
         format: Format,
         edit: &Edit<Fact, LineKey>,
     ) -> Result<(), Cause>
-        ensures same_reference { self.new.tables.ghost_name ≡ self.old.tables.ghost_name }
-        ensures writes { WritesOnly (state_of S.Store self.old.tables.now) (state_of S.Store self.new.tables.now) ⊤ }
-        ensures edited { Makes (state_of S.Store self.old.tables.now) (state_of S.Store self.new.tables.now) result (Puts (IsValid (fact_layout format)) edit.now) (λ made. with_facts_in format (with_edit row.fact edit.now (facts_in format made)) made) }
-        ensures cause { HasCleanDisk (state_of S.Store self.new.tables.now) → IsTrue (state_of S.Store self.old.tables.now).in_transaction → self.old.writes < u64.MAX → IsOfTypes (fact_layout format) edit.now
-            → IfErr result (λ cause. cause ≢ Memory → IsCauseOf (statement_of (fact_layout format) (fact_texts format) bind_line edit.now).0 (statement_of (fact_layout format) (fact_texts format) bind_line edit.now).1 (state_of S.Store self.old.tables.now) (state_of S.Store self.new.tables.now) cause) }
-        ensures counted { OnOk result (self.new.writes ≡ self.old.writes + 1) }
-        ensures noted { NotesRefusals self.old.refused self.new.refused result }
+        ensures { MakesEdit S.Store self.old self.new result (Puts (IsValid (fact_layout format)) edit.now) (λ made. with_facts_in format (with_edit row.fact edit.now (facts_in format made)) made) (statement_of (fact_layout format) (fact_texts format) bind_line edit.now) (IsOfTypes (fact_layout format) edit.now) }
     {
         match format {
             Format::One => self.edit::<tables::Fact>(alloc, edit),
@@ -128,16 +110,7 @@ impl<'t, S: Alter> Writing<'t, S> {
         format: Format,
         facts: &[&Fact],
     ) -> Result<bool, Cause>
-        ensures same_reference { self.new.tables.ghost_name ≡ self.old.tables.ghost_name }
-        ensures writes { WritesOnly (state_of S.Store self.old.tables.now) (state_of S.Store self.new.tables.now) ⊤ }
-        ensures inserted { HasCleanDisk (state_of S.Store self.new.tables.now) → (before : Option TypedTables) (made : TypedTables) → IsWriting before (Some made) (state_of S.Store self.old.tables.now) → AllByRecursion (IsValid (fact_layout format)) (map (λ f. f.now) facts.now)
-            → IfOk result (λ inserted. IsWriting before (Some (if inserted then with_facts_in format (with_rows row.fact (map (λ f. f.now) facts.now) (facts_in format made)) made else made)) (state_of S.Store self.new.tables.now)) }
-        ensures sixteen { IfOk result (λ inserted. IsTrue inserted → length facts.now ≡ rows_at_once) }
-        ensures refused { HasCleanDisk (state_of S.Store self.new.tables.now) → IfOk result (λ inserted. inserted ≡ false → (length facts.now ≢ rows_at_once) ⊎ BreaksRule (inserting format) (bind_rows (fact_layout format) (map (λ f. f.now) facts.now)) (state_of S.Store self.old.tables.now) (state_of S.Store self.new.tables.now)) }
-        ensures counted { IfOk result (λ inserted. self.new.writes ≡ self.old.writes + (if inserted then length facts.now else 0)) }
-        ensures cause { HasCleanDisk (state_of S.Store self.new.tables.now) → IsTrue (state_of S.Store self.old.tables.now).in_transaction → self.old.writes + length facts.now ≤ u64.MAX → AllByRecursion (IsValid (fact_layout format)) (map (λ f. f.now) facts.now)
-            → IfErr result (λ cause. cause ≢ Memory → IsCauseOf (inserting format) (bind_rows (fact_layout format) (map (λ f. f.now) facts.now)) (state_of S.Store self.old.tables.now) (state_of S.Store self.new.tables.now) cause) }
-        ensures noted { NotesRefusals self.old.refused self.new.refused result }
+        ensures { InsertsRows S.Store self.old self.new result (AllByRecursion (IsValid (fact_layout format)) (map (λ f. f.now) facts.now)) (λ made. with_facts_in format (with_rows row.fact (map (λ f. f.now) facts.now) (facts_in format made)) made) (length facts.now) (inserting format, bind_rows (fact_layout format) (map (λ f. f.now) facts.now)) }
     {
         match format {
             Format::One => self.insert_new::<tables::Fact>(alloc, facts),

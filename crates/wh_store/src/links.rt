@@ -9,7 +9,7 @@ ghost use Rattle.wh_sql.specs.LinkedTally.{linked_by, HasCountedLinks, HasCounte
 ghost use Rattle.wh_sql.specs.Reads.{ReadsOnly, IsOfDamage};
 ghost use Rattle.wh_sql.specs.Refused.{IsCauseOfQuery};
 ghost use Rattle.wh_sql.specs.declared.fault.ReadFault.TheVariants.{Store as Refused};
-ghost use Rattle.wh_store.specs.Reads.{state_of, SaysAtRest, SaysAsStored};
+ghost use Rattle.wh_store.specs.Reads.{state_of, SaysAtRest, SaysAsStored, Answers, ListsRows, AsksRows, FindsRow, TalliesRows, CountsRows};
 
 use crate::tables::Tables;
 use sqlite::Alter;
@@ -25,12 +25,7 @@ impl<S: Alter> Tables<S> {
         tally: &mut C,
     ) -> Result<(), ReadFault>
         requires { C.counts tally.old [] tally.old }
-        ensures reads { ReadsOnly (state_of S.Store self.old) (state_of S.Store self.new) result }
-        ensures counted { SaysAtRest (state_of S.Store self.old) (state_of S.Store self.new) (λ t. IfOk result (λ _. HasCountedLinks C.counts tally.old tally.new (values (facts_in format t)))) }
-        // The same of any stored rows, by the columns that are read of them: each was counted, or one is damaged.
-        ensures stored { SaysAsStored (state_of S.Store self.old) (state_of S.Store self.new) (λ stored. IfOk result (λ _. HasCountedStoredLinks C.counts tally.old tally.new (stored.rows (facts_table format)))) }
-        ensures damaged { SaysAsStored (state_of S.Store self.old) (state_of S.Store self.new) (λ stored. IfErr result (IsOfDamage (fact_layout format) (facts_table format) (stored.rows (facts_table format)))) }
-        ensures refused { HasCleanDisk (state_of S.Store self.new) → IfErr result (λ fault. (why : Cause) → fault ≡ Refused why → IsCauseOfQuery (linked_by format) [] (state_of S.Store self.old) (state_of S.Store self.new) why) }
+        ensures { TalliesRows S.Store self.old self.new (facts_table format) (fact_layout format) (λ t. HasCountedLinks C.counts tally.old tally.new (values (facts_in format t))) (HasCountedStoredLinks C.counts tally.old tally.new) (linked_by format) result }
     {
         tally_links(&mut self.conn, format, tally)
     }

@@ -5,7 +5,7 @@ ghost use Rattle.std.specs.List.{AllByRecursion};
 ghost use Rattle.wh_history.specs.declared.plan.Edit.TheVariants.{Put};
 ghost use Rattle.wh_rows.specs.Steps.{after_all};
 ghost use Rattle.wh_store.specs.Reads.{state_of};
-ghost use Rattle.wh_store.specs.Writes.{WritesOnly, Makes, NotesRefusals, SaysInWriting, TellsRefused};
+ghost use Rattle.wh_store.specs.Writes.{WritesOnly, Makes, NotesRefusals, SaysInWriting, TellsRefused, MakesEdit, MakesEdits, InsertsRows};
 ghost use Rattle.wh_store.specs.Edits.{with_edit, IsValid, Puts, AreOfTypes, part_statements, statements_in_parts};
 
 use crate::writing::Writing;
@@ -39,13 +39,7 @@ impl<'t, S: Alter> Writing<'t, S> {
         alloc: Global,
         edits: &[Edit<T::Row, T::Key>],
     ) -> Result<(), Cause>
-        ensures same_reference { self.new.tables.ghost_name ≡ self.old.tables.ghost_name }
-        ensures writes { WritesOnly (state_of S.Store self.old.tables.now) (state_of S.Store self.new.tables.now) (AllByRecursion (Puts (IsValid T.layout)) edits.now) }
-        ensures edited { Makes (state_of S.Store self.old.tables.now) (state_of S.Store self.new.tables.now) result (AllByRecursion (Puts (IsValid T.layout)) edits.now) (λ made. T.with_rows (after_all (with_edit T.layout) edits.now (T.rows made)) made) }
-        ensures cause { SaysInWriting S.Store self.old.tables.now self.new.tables.now (AllByRecursion (Puts (IsValid T.layout)) edits.now → AreOfTypes T.layout edits.now → self.old.writes + length edits.now ≤ u64.MAX
-            → TellsRefused S.Store (part_statements T.layout T.texts T.bind T.insert_means edits.now) self.old.tables.now self.new.tables.now result) }
-        ensures counted { OnOk result (self.new.writes ≡ self.old.writes + length edits.now) }
-        ensures noted { NotesRefusals self.old.refused self.new.refused result }
+        ensures { MakesEdits S.Store self.old self.new result (AllByRecursion (Puts (IsValid T.layout)) edits.now) (λ made. T.with_rows (after_all (with_edit T.layout) edits.now (T.rows made)) made) (length edits.now) (part_statements T.layout T.texts T.bind T.insert_means edits.now) (AreOfTypes T.layout edits.now) }
     {
         let Ok(Some(rows)) = new_rows(alloc, edits) else {
             return self.edit_all::<T>(alloc, edits);
@@ -62,13 +56,7 @@ impl<'t, S: Alter> Writing<'t, S> {
         alloc: Global,
         edits: &[Edit<T::Row, T::Key>],
     ) -> Result<(), Cause>
-        ensures same_reference { self.new.tables.ghost_name ≡ self.old.tables.ghost_name }
-        ensures writes { WritesOnly (state_of S.Store self.old.tables.now) (state_of S.Store self.new.tables.now) (AllByRecursion (Puts (IsValid T.layout)) edits.now) }
-        ensures edited { Makes (state_of S.Store self.old.tables.now) (state_of S.Store self.new.tables.now) result (AllByRecursion (Puts (IsValid T.layout)) edits.now) (λ made. T.with_rows (after_all (with_edit T.layout) edits.now (T.rows made)) made) }
-        ensures cause { SaysInWriting S.Store self.old.tables.now self.new.tables.now (AllByRecursion (Puts (IsValid T.layout)) edits.now → AreOfTypes T.layout edits.now → self.old.writes + length edits.now ≤ u64.MAX
-            → TellsRefused S.Store (statements_in_parts T.layout T.texts T.bind T.insert_means edits.now) self.old.tables.now self.new.tables.now result) }
-        ensures counted { OnOk result (self.new.writes ≡ self.old.writes + length edits.now) }
-        ensures noted { NotesRefusals self.old.refused self.new.refused result }
+        ensures { MakesEdits S.Store self.old self.new result (AllByRecursion (Puts (IsValid T.layout)) edits.now) (λ made. T.with_rows (after_all (with_edit T.layout) edits.now (T.rows made)) made) (length edits.now) (statements_in_parts T.layout T.texts T.bind T.insert_means edits.now) (AreOfTypes T.layout edits.now) }
     {
         for part in edits.chunks(ROWS_AT_ONCE) {
             self.edit_part::<T>(alloc, part)?;

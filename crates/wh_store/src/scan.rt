@@ -10,9 +10,8 @@ ghost use Rattle.wh_rows.specs.Parts.{IsArranged};
 ghost use Rattle.wh_rows.specs.Raw.{Stored};
 ghost use Rattle.sqlite.specs.Order.{Row as Columns};
 ghost use Rattle.wh_sql.specs.Page.{HasKey};
-ghost use Rattle.wh_sql.specs.Reads.{ReadsOnly};
-ghost use Rattle.wh_store.specs.Reads.{state_of, SaysAtRest, SaysAsStored, SaysInFormat, SaysAsStoredIn};
-ghost use Rattle.wh_store.specs.Scan.{rows_left, HandsOut, IsOver, AreLeft, HandsOutOf, AreValid, FailsToShowPart, IsOfDamagedPart};
+ghost use Rattle.wh_store.specs.Reads.{SaysInFormat, SaysAsStoredIn, ReadsOnlyIn, WhenAtRest, WhenStored};
+ghost use Rattle.wh_store.specs.Scan.{rows_left, HandsOut, IsOver, AreLeft, HandsOutOf, AreValid, FailsToShowPart, IsOfDamagedPart, ScansOn};
 
 use crate::tables::Tables;
 use sqlite::Alter;
@@ -65,17 +64,17 @@ fn read_ahead<T: PagedTable, S: Alter>(
     alloc: Global,
     cursor: &mut Cursor<T::Key, T::Row>,
 ) -> Result<(), ReadFault>
-    ensures reads { ReadsOnly (state_of S.Store tables.old) (state_of S.Store tables.new) result }
-    ensures rows { SaysAtRest (state_of S.Store tables.old) (state_of S.Store tables.new) (λ t. IfOk result (λ _. cursor.old.is_over ≡ false → into_iter_items cursor.old.ahead ≡ [] → rows_left T.StoredTable.layout (T.StoredTable.rows t) cursor.new ≡ rows_left T.StoredTable.layout (T.StoredTable.rows t) cursor.old)) }
+    ensures reads { ReadsOnlyIn S.Store tables.old tables.new result }
+    ensures rows { WhenAtRest S.Store tables.old tables.new (λ t. IfOk result (λ _. cursor.old.is_over ≡ false → into_iter_items cursor.old.ahead ≡ [] → rows_left T.StoredTable.layout (T.StoredTable.rows t) cursor.new ≡ rows_left T.StoredTable.layout (T.StoredTable.rows t) cursor.old)) }
     // Of any stored rows none is missed and none comes twice.
-    ensures stored { SaysAsStored (state_of S.Store tables.old) (state_of S.Store tables.new) (λ stored. IfOk result (λ _. cursor.old.is_over ≡ false → into_iter_items cursor.old.ahead ≡ [] → (left : List Columns)
+    ensures stored { WhenStored S.Store tables.old tables.new (λ stored. IfOk result (λ _. cursor.old.is_over ≡ false → into_iter_items cursor.old.ahead ≡ [] → (left : List Columns)
         → AreLeft T.StoredTable.layout T.KeyedTable.bind (stored.rows T.KeyedTable.name) cursor.new left → AreLeft T.StoredTable.layout T.KeyedTable.bind (stored.rows T.KeyedTable.name) cursor.old left)) }
     // A row of the part that is damaged is reported.
     ensures damaged { IsOfDamagedPart S.Store T.StoredTable.layout T.KeyedTable.name T.part_texts T.KeyedTable.bind cursor.old.unread.after tables.old tables.new result }
     ensures refused { FailsToShowPart S.Store T.StoredTable.layout T.KeyedTable.name T.part_texts T.KeyedTable.bind cursor.old.unread.after tables.old tables.new result }
-    ensures keyed { SaysAsStored (state_of S.Store tables.old) (state_of S.Store tables.new) (λ _. IfOk result (λ _. HasKey T.StoredTable.layout cursor.new.unread.after)) }
+    ensures keyed { WhenStored S.Store tables.old tables.new (λ _. IfOk result (λ _. HasKey T.StoredTable.layout cursor.new.unread.after)) }
     // All that is read ahead is of its type.
-    ensures valid { SaysAsStored (state_of S.Store tables.old) (state_of S.Store tables.new) (λ _. IfOk result (λ _. AreValid T.StoredTable.layout cursor.new)) }
+    ensures valid { WhenStored S.Store tables.old tables.new (λ _. IfOk result (λ _. AreValid T.StoredTable.layout cursor.new)) }
     // Nothing is read ahead only where nothing is left.
     ensures short { IfOk result (λ _. into_iter_items cursor.new.ahead ≡ [] → IsTrue cursor.new.is_over) }
     ensures ended { into_iter_items cursor.old.ahead ≡ [] → OnErr result (IsOver cursor.new) }
@@ -98,20 +97,9 @@ pub fn next_row<T: PagedTable, S: Alter>(
     format: Format,
     cursor: &mut Cursor<T::Key, T::Row>,
 ) -> Result<Option<T::Row>, ReadFault>
-    ensures reads { ReadsOnly (state_of S.Store tables.old) (state_of S.Store tables.new) result }
-    ensures rows { SaysInFormat S.Store T.KeyedTable.name format tables.old tables.new (λ t. IfOk result (λ found. HandsOut (rows_left T.StoredTable.layout (T.StoredTable.rows t) cursor.old) found (rows_left T.StoredTable.layout (T.StoredTable.rows t) cursor.new))) }
-    // Of any stored rows none is missed and none comes twice.
-    ensures stored { SaysAsStoredIn S.Store T.KeyedTable.name format tables.old tables.new (λ stored. IfOk result (λ found. HandsOutOf T.StoredTable.layout T.KeyedTable.bind (stored.rows T.KeyedTable.name) cursor.old found cursor.new)) }
+    ensures next { ScansOn S.Store T.KeyedTable.name T.StoredTable.layout T.StoredTable.rows T.part_texts T.KeyedTable.bind format tables.old tables.new cursor.old cursor.new result }
     // What is handed out is of its type.
     ensures valid { SaysAsStoredIn S.Store T.KeyedTable.name format tables.old tables.new (λ _. AreValid T.StoredTable.layout cursor.old → IfOk result (λ found. IfSome found (λ row. IsTrue (T.StoredTable.layout.is_valid row)) × AreValid T.StoredTable.layout cursor.new)) }
-    // A damaged row is reported with the part that it is in.
-    ensures damaged { IsOfDamagedPart S.Store T.StoredTable.layout T.KeyedTable.name T.part_texts T.KeyedTable.bind cursor.old.unread.after tables.old tables.new result }
-    ensures refused { FailsToShowPart S.Store T.StoredTable.layout T.KeyedTable.name T.part_texts T.KeyedTable.bind cursor.old.unread.after tables.old tables.new result }
-    ensures keyed { SaysAsStoredIn S.Store T.KeyedTable.name format tables.old tables.new (λ _. HasKey T.StoredTable.layout cursor.old.unread.after → IfOk result (λ _. HasKey T.StoredTable.layout cursor.new.unread.after)) }
-    ensures ended { OnErr result (IsOver cursor.new) }
-    ensures over { IsOver cursor.old → (result ≡ Ok None) × (tables.new ≡ tables.old) × IsOver cursor.new }
-    // Of a table that the format hasn't nothing is asked.
-    ensures absent { is_there T.KeyedTable.name format ≡ false → into_iter_items cursor.old.ahead ≡ [] → (result ≡ Ok None) × (tables.new ≡ tables.old) × (into_iter_items cursor.new.ahead ≡ []) }
 {
     if let Some(row) = cursor.ahead.next() {
         return Ok(Some(row));
@@ -141,18 +129,7 @@ impl<'t, S: Alter, T: PagedTable> Scan<'t, S, T> {
     pub fn next_row(&mut self, alloc: Global) -> Result<Option<T::Row>, ReadFault>
         ensures same_reference { self.new.tables.ghost_name ≡ self.old.tables.ghost_name }
         ensures same_format { self.new.format ≡ self.old.format }
-        ensures reads { ReadsOnly (state_of S.Store self.old.tables.now) (state_of S.Store self.new.tables.now) result }
-        ensures rows { SaysInFormat S.Store T.KeyedTable.name self.old.format self.old.tables.now self.new.tables.now (λ t. IfOk result (λ found. HandsOut (rows_left T.StoredTable.layout (T.StoredTable.rows t) self.old.cursor) found (rows_left T.StoredTable.layout (T.StoredTable.rows t) self.new.cursor))) }
-        // Of any stored rows none is missed and none comes twice.
-        ensures stored { SaysAsStoredIn S.Store T.KeyedTable.name self.old.format self.old.tables.now self.new.tables.now (λ stored. IfOk result (λ found. HandsOutOf T.StoredTable.layout T.KeyedTable.bind (stored.rows T.KeyedTable.name) self.old.cursor found self.new.cursor)) }
-        // A damaged row is reported with the part that it is in.
-        ensures damaged { IsOfDamagedPart S.Store T.StoredTable.layout T.KeyedTable.name T.part_texts T.KeyedTable.bind self.old.cursor.unread.after self.old.tables.now self.new.tables.now result }
-        ensures refused { FailsToShowPart S.Store T.StoredTable.layout T.KeyedTable.name T.part_texts T.KeyedTable.bind self.old.cursor.unread.after self.old.tables.now self.new.tables.now result }
-        ensures keyed { SaysAsStoredIn S.Store T.KeyedTable.name self.old.format self.old.tables.now self.new.tables.now (λ _. HasKey T.StoredTable.layout self.old.cursor.unread.after → IfOk result (λ _. HasKey T.StoredTable.layout self.new.cursor.unread.after)) }
-        ensures ended { OnErr result (IsOver self.new.cursor) }
-        ensures over { IsOver self.old.cursor → (result ≡ Ok None) × (self.new.tables.now ≡ self.old.tables.now) × IsOver self.new.cursor }
-        // Of a table that the format hasn't nothing is asked.
-        ensures absent { is_there T.KeyedTable.name self.old.format ≡ false → into_iter_items self.old.cursor.ahead ≡ [] → (result ≡ Ok None) × (self.new.tables.now ≡ self.old.tables.now) × (into_iter_items self.new.cursor.ahead ≡ []) }
+        ensures next { ScansOn S.Store T.KeyedTable.name T.StoredTable.layout T.StoredTable.rows T.part_texts T.KeyedTable.bind self.old.format self.old.tables.now self.new.tables.now self.old.cursor self.new.cursor result }
     {
         next_row::<T, S>(self.tables, alloc, self.format, &mut self.cursor)
     }

@@ -21,10 +21,10 @@ ghost use Rattle.wh_rows.specs.Types.{dim_number};
 ghost use Rattle.wh_rows.specs.Firsts.{part, greatest as greatest_of};
 ghost use Rattle.wh_rows.specs.Questions.{is_record_of};
 ghost use Rattle.wh_rows.specs.Raw.{AreRows, AreAsked, IsLastOf, IsGreatestAnchor};
-ghost use Rattle.wh_sql.specs.Reads.{ReadsOnly, Spares, IsServed, IsOfDamage, IsOfAskedDamage, IsOfGreatestDamage, FailsToShow, FailsToCount};
+ghost use Rattle.wh_sql.specs.Reads.{Spares, IsServed, IsOfDamage, IsOfAskedDamage, IsOfGreatestDamage, FailsToShow, FailsToCount};
 ghost use Rattle.wh_sql.specs.Facts.{facts_by};
 ghost use Rattle.wh_sql.specs.Refused.{IsCauseOfQuery, IsOneRefused};
-ghost use Rattle.wh_store.specs.Reads.{state_of, SaysAtRest, SaysAsStored};
+ghost use Rattle.wh_store.specs.Reads.{state_of, SaysAtRest, SaysAsStored, Answers, ListsRows, AsksRows, FindsRow, TalliesRows, CountsRows, SparesIn, WhenAtRest, WhenStored};
 ghost use Rattle.wh_sql.specs.Present.{is_any_taken, is_second_taken, has_tables, has_second};
 ghost use Rattle.wh_sql.specs.Tally.{HasCounted, HasCountedStored};
 ghost use Rattle.wh_sql.specs.declared.fault.ReadFault.TheVariants.{Damaged, Store as Refused};
@@ -115,12 +115,12 @@ impl<S: Alter> Tables<S> {
 
     /// The limits that were chosen at the making. `Damaged` names meta if one of the three is missing or invalid.
     pub fn limits(&mut self, alloc: Global) -> Result<Limits, ReadFault>
-        ensures reads { Spares (state_of S.Store self.old) (state_of S.Store self.new) (IsServed result) }
-        ensures limits { SaysAtRest (state_of S.Store self.old) (state_of S.Store self.new) (λ t. IfOk result (λ limits. limits_in t ≡ Some limits)) }
-        ensures damaged { SaysAtRest (state_of S.Store self.old) (state_of S.Store self.new) (λ t. (table : Table) → result ≡ Err (Damaged table) → (table ≡ Table.Meta) × (limits_in t ≡ None)) }
+        ensures reads { SparesIn S.Store self.old self.new (IsServed result) }
+        ensures limits { WhenAtRest S.Store self.old self.new (λ t. IfOk result (λ limits. limits_in t ≡ Some limits)) }
+        ensures damaged { WhenAtRest S.Store self.old self.new (λ t. (table : Table) → result ≡ Err (Damaged table) → (table ≡ Table.Meta) × (limits_in t ≡ None)) }
         // The same of any stored rows: by those of the three names.
-        ensures stored { SaysAsStored (state_of S.Store self.old) (state_of S.Store self.new) (λ stored. IfOk result (λ limits. LimitsAre stored (Some limits))) }
-        ensures limitless { SaysAsStored (state_of S.Store self.old) (state_of S.Store self.new) (λ stored. IfErr result (IsLimitless stored)) }
+        ensures stored { WhenStored S.Store self.old self.new (λ stored. IfOk result (λ limits. LimitsAre stored (Some limits))) }
+        ensures limitless { WhenStored S.Store self.old self.new (λ stored. IfErr result (IsLimitless stored)) }
         ensures refused { HasCleanDisk (state_of S.Store self.new) → (cause : Cause) → result ≡ Err (Refused cause) → IsOneRefused S.Store IsCauseOfQuery limits_asked self.old.conn self.new.conn cause }
     {
         let commands = meta::number(alloc, &mut self.conn, "commands_max")?;
@@ -134,12 +134,7 @@ impl<S: Alter> Tables<S> {
 
     /// All rows of a table, in the order of their keys. `Damaged`: one of them is out of its type.
     pub fn all<T: KeyedTable>(&mut self, alloc: Global) -> Result<Vec<T::Row>, ReadFault>
-        ensures reads { ReadsOnly (state_of S.Store self.old) (state_of S.Store self.new) result }
-        ensures rows { SaysAtRest (state_of S.Store self.old) (state_of S.Store self.new) (λ t. IfOk result (λ rows. rows.items ≡ values (T.rows t))) }
-        // The same of any stored rows: all that is stored is read, or a row of it is out of its type.
-        ensures stored { SaysAsStored (state_of S.Store self.old) (state_of S.Store self.new) (λ stored. IfOk result (λ rows. AreRows T.layout (stored.rows T.name) rows.items)) }
-        ensures damaged { SaysAsStored (state_of S.Store self.old) (state_of S.Store self.new) (λ stored. IfErr result (IsOfDamage T.layout T.name (stored.rows T.name))) }
-        ensures refused { HasCleanDisk (state_of S.Store self.new) → IfErr result (FailsToShow T.layout T.name T.texts.all [] (state_of S.Store self.old) (state_of S.Store self.new)) }
+        ensures { ListsRows S.Store self.old self.new T.name T.layout T.rows T.texts.all result }
     {
         all::<T, S>(alloc, &mut self.conn)
     }
@@ -150,23 +145,14 @@ impl<S: Alter> Tables<S> {
         alloc: Global,
         key: &T::Key,
     ) -> Result<Option<T::Row>, ReadFault>
-        ensures reads { ReadsOnly (state_of S.Store self.old) (state_of S.Store self.new) result }
-        ensures row { SaysAtRest (state_of S.Store self.old) (state_of S.Store self.new) (λ t. IfOk result (λ row. row ≡ get (T.rows t) key.now)) }
-        // The same of any stored rows: of those that are stored at the key.
-        ensures stored { SaysAsStored (state_of S.Store self.old) (state_of S.Store self.new) (λ stored. IfOk result (IsLastOf T.layout (filter (T.stands_at key.now) (stored.rows T.name)))) }
-        ensures damaged { SaysAsStored (state_of S.Store self.old) (state_of S.Store self.new) (λ stored. IfErr result (IsOfDamage T.layout T.name (filter (T.stands_at key.now) (stored.rows T.name)))) }
-        ensures refused { HasCleanDisk (state_of S.Store self.new) → (row : T.Row) → IsTrue (T.layout.is_valid row) → T.layout.key row ≡ key.now → IfErr result (FailsToShow T.layout T.name T.texts.get (T.bind key.now) (state_of S.Store self.old) (state_of S.Store self.new)) }
+        ensures { FindsRow S.Store self.old self.new T.name T.layout (λ t. get (T.rows t) key.now) T.stands_at T.bind T.texts.get key.now result }
     {
         get::<T, S>(alloc, &mut self.conn, key)
     }
 
     /// How many rows a table has. `Store(Size)`: more than the database counts.
     pub fn count<T: KeyedTable>(&mut self, alloc: Global) -> Result<u64, ReadFault>
-        ensures reads { ReadsOnly (state_of S.Store self.old) (state_of S.Store self.new) result }
-        ensures count { SaysAtRest (state_of S.Store self.old) (state_of S.Store self.new) (λ t. IfOk result (λ count. count ≡ len (T.rows t))) }
-        // The same of any stored rows: all that are stored are counted, damaged or not.
-        ensures stored { SaysAsStored (state_of S.Store self.old) (state_of S.Store self.new) (λ stored. IfOk result (λ count. count ≡ length (stored.rows T.name))) }
-        ensures refused { SaysAtRest (state_of S.Store self.old) (state_of S.Store self.new) (λ t. IfErr result (FailsToCount (len (T.rows t)) T.texts.count (state_of S.Store self.old) (state_of S.Store self.new))) }
+        ensures { CountsRows S.Store self.old self.new T.name (λ t. len (T.rows t)) T.texts.count result }
     {
         count::<T, S>(alloc, &mut self.conn)
     }
@@ -178,12 +164,7 @@ impl<S: Alter> Tables<S> {
         alloc: Global,
         question: &Q,
     ) -> Result<Vec<T::Row>, ReadFault>
-        ensures reads { ReadsOnly (state_of S.Store self.old) (state_of S.Store self.new) result }
-        ensures rows { SaysAtRest (state_of S.Store self.old) (state_of S.Store self.new) (λ t. IfOk result (λ rows. rows.items ≡ part Q.front (filter (Q.keep question.now) (values (T.rows t))))) }
-        // The same of any stored rows: no other row keeps these from being read.
-        ensures stored { SaysAsStored (state_of S.Store self.old) (state_of S.Store self.new) (λ stored. IfOk result (λ rows. AreAsked Q.front T.layout (filter (Q.stands question.now) (stored.rows T.name)) rows.items)) }
-        ensures damaged { SaysAsStored (state_of S.Store self.old) (state_of S.Store self.new) (λ stored. IfErr result (IsOfAskedDamage Q.front T.layout T.name (filter (Q.stands question.now) (stored.rows T.name)))) }
-        ensures refused { HasCleanDisk (state_of S.Store self.new) → Q.can_be_asked question.now → IfErr result (FailsToShow T.layout T.name (Q.means question.now) (Q.bind question.now) (state_of S.Store self.old) (state_of S.Store self.new)) }
+        ensures { AsksRows S.Store self.old self.new T.name T.layout T.rows Q.front (Q.keep question.now) (Q.stands question.now) (Q.means question.now) (Q.bind question.now) (Q.can_be_asked question.now) result }
     {
         ask::<T, Q, S>(alloc, &mut self.conn, question)
     }
@@ -197,24 +178,15 @@ impl<S: Alter> Tables<S> {
         tally: &mut C,
     ) -> Result<(), ReadFault>
         requires { C.counts tally.old [] tally.old }
-        ensures reads { ReadsOnly (state_of S.Store self.old) (state_of S.Store self.new) result }
-        ensures counted { SaysAtRest (state_of S.Store self.old) (state_of S.Store self.new) (λ t. IfOk result (λ _. HasCounted C.counts which tally.old tally.new (values (facts_in format t)))) }
-        // The same of any stored rows, by the columns that are read of them: each was counted, or one is damaged.
-        ensures stored { SaysAsStored (state_of S.Store self.old) (state_of S.Store self.new) (λ stored. IfOk result (λ _. HasCountedStored C.counts which tally.old tally.new (stored.rows (facts_table format)))) }
-        ensures damaged { SaysAsStored (state_of S.Store self.old) (state_of S.Store self.new) (λ stored. IfErr result (IsOfDamage (fact_layout format) (facts_table format) (stored.rows (facts_table format)))) }
-        ensures refused { HasCleanDisk (state_of S.Store self.new) → IfErr result (λ fault. (why : Cause) → fault ≡ Refused why → IsCauseOfQuery (facts_by format which) [] (state_of S.Store self.old) (state_of S.Store self.new) why) }
+        ensures { TalliesRows S.Store self.old self.new (facts_table format) (fact_layout format) (λ t. HasCounted C.counts which tally.old tally.new (values (facts_in format t))) (HasCountedStored C.counts which tally.old tally.new) (facts_by format which) result }
     {
         tally_facts(&mut self.conn, format, which, tally)
     }
 
     /// The greatest anchor among the accepted records of a dimension, 0 where there is none.
     pub fn greatest_anchor(&mut self, alloc: Global, dim: Dim) -> Result<u64, ReadFault>
-        ensures reads { ReadsOnly (state_of S.Store self.old) (state_of S.Store self.new) result }
-        ensures anchor { SaysAtRest (state_of S.Store self.old) (state_of S.Store self.new) (λ t. IfOk result (λ anchor. anchor ≡ greatest_of (map (λ r. r.anchor) (filter (λ r. eq_by_cmp nat_cmp (dim_number dim) (dim_number r.dim)) (values t.change))))) }
-        // The same of any stored rows: none of the dimension's has a greater anchor.
-        ensures stored { SaysAsStored (state_of S.Store self.old) (state_of S.Store self.new) (λ stored. IfOk result (IsGreatestAnchor (filter (is_record_of dim) (stored.rows OfChange)))) }
-        ensures damaged { SaysAsStored (state_of S.Store self.old) (state_of S.Store self.new) (λ stored. IfErr result (IsOfGreatestDamage (filter (is_record_of dim) (stored.rows OfChange)))) }
-        ensures refused { HasCleanDisk (state_of S.Store self.new) → IfErr result (FailsToShow change OfChange texts.greatest_anchor (Number (pos (dim_number dim)) ∷ []) (state_of S.Store self.old) (state_of S.Store self.new)) }
+        ensures { Answers S.Store self.old self.new result (λ t anchor. anchor ≡ greatest_of (map (λ r. r.anchor) (filter (λ r. eq_by_cmp nat_cmp (dim_number dim) (dim_number r.dim)) (values t.change)))) (λ stored. IsGreatestAnchor (filter (is_record_of dim) (stored.rows OfChange)))
+            (λ stored. IsOfGreatestDamage (filter (is_record_of dim) (stored.rows OfChange))) (FailsToShow change OfChange texts.greatest_anchor (Number (pos (dim_number dim)) ∷ []) (state_of S.Store self.old) (state_of S.Store self.new)) }
     {
         greatest_anchor(alloc, &mut self.conn, dim)
     }

@@ -19,7 +19,7 @@ ghost use Rattle.wh_rows.specs.Making.{upgrading_texts};
 ghost use Rattle.wh_sql.specs.Facts.{rekeying};
 ghost use Rattle.wh_sql.specs.Refused.{IsOneRefused, bare};
 ghost use Rattle.wh_store.specs.Reads.{state_of};
-ghost use Rattle.wh_store.specs.Writes.{WritesOnly, Makes, NotesRefusals, SaysInWriting, TellsRefused, Undoes};
+ghost use Rattle.wh_store.specs.Writes.{WritesOnly, Makes, NotesRefusals, SaysInWriting, TellsRefused, Undoes, MakesEdit, MakesEdits, InsertsRows};
 ghost use Rattle.wh_store.specs.Edits.{with_edit, IsValid, Puts, IsOfTypes, AreOfTypes, statement_of};
 ghost use Rattle.wh_store.specs.Meta.{made_with, with_number, making};
 
@@ -89,13 +89,7 @@ impl<'t, S: Alter> Writing<'t, S> {
 
     /// Puts the row at its key, in place of the one that was there. `Size`: a number of it is greater than any that can be stored.
     pub fn put<T: KeyedTable>(&mut self, alloc: Global, row: &T::Row) -> Result<(), Cause>
-        ensures same_reference { self.new.tables.ghost_name ≡ self.old.tables.ghost_name }
-        ensures writes { WritesOnly (state_of S.Store self.old.tables.now) (state_of S.Store self.new.tables.now) ⊤ }
-        ensures put { Makes (state_of S.Store self.old.tables.now) (state_of S.Store self.new.tables.now) result (IsValid T.layout row.now) (λ made. T.with_rows (insert (T.rows made) (T.layout.key row.now) row.now) made) }
-        ensures cause { HasCleanDisk (state_of S.Store self.new.tables.now) → IsTrue (state_of S.Store self.old.tables.now).in_transaction → self.old.writes < u64.MAX → IsValid T.layout row.now
-            → IfErr result (λ cause. cause ≢ Memory → IsCauseOf T.texts.put (T.layout.encode row.now) (state_of S.Store self.old.tables.now) (state_of S.Store self.new.tables.now) cause) }
-        ensures counted { OnOk result (self.new.writes ≡ self.old.writes + 1) }
-        ensures noted { NotesRefusals self.old.refused self.new.refused result }
+        ensures { MakesEdit S.Store self.old self.new result (IsValid T.layout row.now) (λ made. T.with_rows (insert (T.rows made) (T.layout.key row.now) row.now) made) (T.texts.put, T.layout.encode row.now) (IsValid T.layout row.now) }
     {
         let refused = replace(&mut self.refused, true);
         let writes = self.and(1)?;
@@ -107,13 +101,7 @@ impl<'t, S: Alter> Writing<'t, S> {
 
     /// Takes out the row at the key, if one is there. It counts as a written key all the same.
     pub fn remove<T: KeyedTable>(&mut self, alloc: Global, key: &T::Key) -> Result<(), Cause>
-        ensures same_reference { self.new.tables.ghost_name ≡ self.old.tables.ghost_name }
-        ensures writes { WritesOnly (state_of S.Store self.old.tables.now) (state_of S.Store self.new.tables.now) ⊤ }
-        ensures removed { Makes (state_of S.Store self.old.tables.now) (state_of S.Store self.new.tables.now) result ⊤ (λ made. T.with_rows (remove (T.rows made) key.now) made) }
-        ensures cause { HasCleanDisk (state_of S.Store self.new.tables.now) → IsTrue (state_of S.Store self.old.tables.now).in_transaction → self.old.writes < u64.MAX → (row : T.Row) → IsTrue (T.layout.is_valid row) → T.layout.key row ≡ key.now
-            → IfErr result (λ cause. cause ≢ Memory → IsCauseOf T.texts.remove (T.bind key.now) (state_of S.Store self.old.tables.now) (state_of S.Store self.new.tables.now) cause) }
-        ensures counted { OnOk result (self.new.writes ≡ self.old.writes + 1) }
-        ensures noted { NotesRefusals self.old.refused self.new.refused result }
+        ensures { MakesEdit S.Store self.old self.new result ⊤ (λ made. T.with_rows (remove (T.rows made) key.now) made) (T.texts.remove, T.bind key.now) ((row : T.Row) × IsTrue (T.layout.is_valid row) × (T.layout.key row ≡ key.now)) }
     {
         let refused = replace(&mut self.refused, true);
         let writes = self.and(1)?;
@@ -131,13 +119,7 @@ impl<'t, S: Alter> Writing<'t, S> {
         line: &LineKey,
         keys: &FactKeys,
     ) -> Result<(), Cause>
-        ensures same_reference { self.new.tables.ghost_name ≡ self.old.tables.ghost_name }
-        ensures writes { WritesOnly (state_of S.Store self.old.tables.now) (state_of S.Store self.new.tables.now) ⊤ }
-        ensures rekeyed { Makes (state_of S.Store self.old.tables.now) (state_of S.Store self.new.tables.now) result (IsTrue (are_keys keys.now)) (λ made. with_facts_in format (rekeyed (line.now, keys.now) (facts_in format made)) made) }
-        ensures cause { HasCleanDisk (state_of S.Store self.new.tables.now) → IsTrue (state_of S.Store self.old.tables.now).in_transaction → self.old.writes < u64.MAX → IsTrue (are_keys keys.now)
-            → IfErr result (λ cause. cause ≢ Memory → IsCauseOf (rekeying format) (bind_rekey (line.now, keys.now)) (state_of S.Store self.old.tables.now) (state_of S.Store self.new.tables.now) cause) }
-        ensures counted { OnOk result (self.new.writes ≡ self.old.writes + 1) }
-        ensures noted { NotesRefusals self.old.refused self.new.refused result }
+        ensures { MakesEdit S.Store self.old self.new result (IsTrue (are_keys keys.now)) (λ made. with_facts_in format (rekeyed (line.now, keys.now) (facts_in format made)) made) (rekeying format, bind_rekey (line.now, keys.now)) (IsTrue (are_keys keys.now)) }
     {
         let refused = replace(&mut self.refused, true);
         let writes = self.and(1)?;
@@ -172,16 +154,7 @@ impl<'t, S: Alter> Writing<'t, S> {
         alloc: Global,
         rows: &[&T::Row],
     ) -> Result<bool, Cause>
-        ensures same_reference { self.new.tables.ghost_name ≡ self.old.tables.ghost_name }
-        ensures writes { WritesOnly (state_of S.Store self.old.tables.now) (state_of S.Store self.new.tables.now) ⊤ }
-        ensures inserted { HasCleanDisk (state_of S.Store self.new.tables.now) → (before : Option TypedTables) (made : TypedTables) → IsWriting before (Some made) (state_of S.Store self.old.tables.now) → AllByRecursion (IsValid T.layout) (map (λ r. r.now) rows.now)
-            → IfOk result (λ inserted. IsWriting before (Some (if inserted then T.with_rows (with_rows T.layout (map (λ r. r.now) rows.now) (T.rows made)) made else made)) (state_of S.Store self.new.tables.now)) }
-        ensures sixteen { IfOk result (λ inserted. IsTrue inserted → length rows.now ≡ rows_at_once) }
-        ensures refused { HasCleanDisk (state_of S.Store self.new.tables.now) → IfOk result (λ inserted. inserted ≡ false → (length rows.now ≢ rows_at_once) ⊎ BreaksRule T.insert_means (bind_rows T.layout (map (λ r. r.now) rows.now)) (state_of S.Store self.old.tables.now) (state_of S.Store self.new.tables.now)) }
-        ensures counted { IfOk result (λ inserted. self.new.writes ≡ self.old.writes + (if inserted then length rows.now else 0)) }
-        ensures cause { HasCleanDisk (state_of S.Store self.new.tables.now) → IsTrue (state_of S.Store self.old.tables.now).in_transaction → self.old.writes + length rows.now ≤ u64.MAX → AllByRecursion (IsValid T.layout) (map (λ r. r.now) rows.now)
-            → IfErr result (λ cause. cause ≢ Memory → IsCauseOf T.insert_means (bind_rows T.layout (map (λ r. r.now) rows.now)) (state_of S.Store self.old.tables.now) (state_of S.Store self.new.tables.now) cause) }
-        ensures noted { NotesRefusals self.old.refused self.new.refused result }
+        ensures { InsertsRows S.Store self.old self.new result (AllByRecursion (IsValid T.layout) (map (λ r. r.now) rows.now)) (λ made. T.with_rows (with_rows T.layout (map (λ r. r.now) rows.now) (T.rows made)) made) (length rows.now) (T.insert_means, bind_rows T.layout (map (λ r. r.now) rows.now)) }
     {
         let refused = replace(&mut self.refused, true);
         let writes = self.and(rows.len() as u64)?;
@@ -193,13 +166,7 @@ impl<'t, S: Alter> Writing<'t, S> {
 
     /// Puts rows at their keys, one after the other.
     pub fn put_all<T: KeyedTable>(&mut self, alloc: Global, rows: &[T::Row]) -> Result<(), Cause>
-        ensures same_reference { self.new.tables.ghost_name ≡ self.old.tables.ghost_name }
-        ensures writes { WritesOnly (state_of S.Store self.old.tables.now) (state_of S.Store self.new.tables.now) (AllByRecursion (IsValid T.layout) rows.now) }
-        ensures put { Makes (state_of S.Store self.old.tables.now) (state_of S.Store self.new.tables.now) result (AllByRecursion (IsValid T.layout) rows.now) (λ made. T.with_rows (after_all (with_row T.layout) rows.now (T.rows made)) made) }
-        ensures cause { SaysInWriting S.Store self.old.tables.now self.new.tables.now (AllByRecursion (IsValid T.layout) rows.now → self.old.writes + length rows.now ≤ u64.MAX
-            → TellsRefused S.Store (map (λ row. (T.texts.put, T.layout.encode row)) rows.now) self.old.tables.now self.new.tables.now result) }
-        ensures counted { OnOk result (self.new.writes ≡ self.old.writes + length rows.now) }
-        ensures noted { NotesRefusals self.old.refused self.new.refused result }
+        ensures { MakesEdits S.Store self.old self.new result (AllByRecursion (IsValid T.layout) rows.now) (λ made. T.with_rows (after_all (with_row T.layout) rows.now (T.rows made)) made) (length rows.now) (map (λ row. (T.texts.put, T.layout.encode row)) rows.now) ⊤ }
     {
         for row in rows {
             self.put::<T>(alloc, row)?;
@@ -213,13 +180,7 @@ impl<'t, S: Alter> Writing<'t, S> {
         alloc: Global,
         edit: &Edit<T::Row, T::Key>,
     ) -> Result<(), Cause>
-        ensures same_reference { self.new.tables.ghost_name ≡ self.old.tables.ghost_name }
-        ensures writes { WritesOnly (state_of S.Store self.old.tables.now) (state_of S.Store self.new.tables.now) ⊤ }
-        ensures edited { Makes (state_of S.Store self.old.tables.now) (state_of S.Store self.new.tables.now) result (Puts (IsValid T.layout) edit.now) (λ made. T.with_rows (with_edit T.layout edit.now (T.rows made)) made) }
-        ensures cause { HasCleanDisk (state_of S.Store self.new.tables.now) → IsTrue (state_of S.Store self.old.tables.now).in_transaction → self.old.writes < u64.MAX → IsOfTypes T.layout edit.now
-            → IfErr result (λ cause. cause ≢ Memory → IsCauseOf (statement_of T.layout T.texts T.bind edit.now).0 (statement_of T.layout T.texts T.bind edit.now).1 (state_of S.Store self.old.tables.now) (state_of S.Store self.new.tables.now) cause) }
-        ensures counted { OnOk result (self.new.writes ≡ self.old.writes + 1) }
-        ensures noted { NotesRefusals self.old.refused self.new.refused result }
+        ensures { MakesEdit S.Store self.old self.new result (Puts (IsValid T.layout) edit.now) (λ made. T.with_rows (with_edit T.layout edit.now (T.rows made)) made) (statement_of T.layout T.texts T.bind edit.now) (IsOfTypes T.layout edit.now) }
     {
         match edit {
             Edit::Put(row) => self.put::<T>(alloc, row),
@@ -233,13 +194,7 @@ impl<'t, S: Alter> Writing<'t, S> {
         alloc: Global,
         edits: &[Edit<T::Row, T::Key>],
     ) -> Result<(), Cause>
-        ensures same_reference { self.new.tables.ghost_name ≡ self.old.tables.ghost_name }
-        ensures writes { WritesOnly (state_of S.Store self.old.tables.now) (state_of S.Store self.new.tables.now) (AllByRecursion (Puts (IsValid T.layout)) edits.now) }
-        ensures edited { Makes (state_of S.Store self.old.tables.now) (state_of S.Store self.new.tables.now) result (AllByRecursion (Puts (IsValid T.layout)) edits.now) (λ made. T.with_rows (after_all (with_edit T.layout) edits.now (T.rows made)) made) }
-        ensures cause { SaysInWriting S.Store self.old.tables.now self.new.tables.now (AllByRecursion (Puts (IsValid T.layout)) edits.now → AreOfTypes T.layout edits.now → self.old.writes + length edits.now ≤ u64.MAX
-            → TellsRefused S.Store (map (statement_of T.layout T.texts T.bind) edits.now) self.old.tables.now self.new.tables.now result) }
-        ensures counted { OnOk result (self.new.writes ≡ self.old.writes + length edits.now) }
-        ensures noted { NotesRefusals self.old.refused self.new.refused result }
+        ensures { MakesEdits S.Store self.old self.new result (AllByRecursion (Puts (IsValid T.layout)) edits.now) (λ made. T.with_rows (after_all (with_edit T.layout) edits.now (T.rows made)) made) (length edits.now) (map (statement_of T.layout T.texts T.bind) edits.now) (AreOfTypes T.layout edits.now) }
     {
         for edit in edits {
             self.edit::<T>(alloc, edit)?;
@@ -290,13 +245,7 @@ impl<'t, S: Alter> Writing<'t, S> {
 
     /// Puts a number into meta under its name.
     fn put_number(&mut self, alloc: Global, name: &str, count: u64) -> Result<(), Cause>
-        ensures same_reference { self.new.tables.ghost_name ≡ self.old.tables.ghost_name }
-        ensures writes { WritesOnly (state_of S.Store self.old.tables.now) (state_of S.Store self.new.tables.now) ⊤ }
-        ensures put { Makes (state_of S.Store self.old.tables.now) (state_of S.Store self.new.tables.now) result ⊤ (λ made. with_number name.now (pos count) made) }
-        ensures cause { HasCleanDisk (state_of S.Store self.new.tables.now) → IsTrue (state_of S.Store self.old.tables.now).in_transaction → self.old.writes < u64.MAX → IsTrue (is_number count)
-            → IfErr result (λ cause. cause ≢ Memory → IsCauseOf texts.meta.put (encode_meta (record { name = name.now; value = pos count })) (state_of S.Store self.old.tables.now) (state_of S.Store self.new.tables.now) cause) }
-        ensures counted { OnOk result (self.new.writes ≡ self.old.writes + 1) }
-        ensures noted { NotesRefusals self.old.refused self.new.refused result }
+        ensures { MakesEdit S.Store self.old self.new result ⊤ (λ made. with_number name.now (pos count) made) (texts.meta.put, encode_meta (record { name = name.now; value = pos count })) (IsTrue (is_number count)) }
     {
         let refused = replace(&mut self.refused, true);
         let row = meta::row(alloc, name, count)?;

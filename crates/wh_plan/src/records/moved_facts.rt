@@ -8,8 +8,8 @@ ghost use Rattle.wh_rows.specs.Questions.{durable_of};
 ghost use Rattle.wh_plan.specs.MovedFacts.{pair_of};
 ghost use Rattle.wh_plan.specs.OnePass.{first_moving, moved_fact, mover, moving_of, on_day, owner_in, seen, first_with};
 ghost use Rattle.wh_plan.specs.RecordPlan.{MovesFacts};
-ghost use Rattle.wh_store.specs.Reads.{ReadsOnly, state_of};
-ghost use Rattle.wh_plan.specs.Reads.{Finds};
+ghost use Rattle.wh_store.specs.Reads.{ReadsOnlyIn};
+ghost use Rattle.wh_plan.specs.Reads.{WhenOfCommands};
 
 use crate::records::touched::TouchedMember;
 use sqlite::Alter;
@@ -191,9 +191,9 @@ pub(crate) fn facts_to_move<S: Alter>(
     dimension: &DimensionShape,
     touched: &[TouchedMember],
 ) -> Result<Vec<Fact>, ReadFault>
-    ensures reads { ReadsOnly (state_of S.Store tables.old) (state_of S.Store tables.new) result }
+    ensures reads { ReadsOnlyIn S.Store tables.old tables.new result }
     // They are what leads from the facts of the commands so far to those with the batch.
-    ensures moved { Finds (state_of S.Store tables.old) (state_of S.Store tables.new) (λ limits commands. format ≡ format_of commands → MovesFacts limits commands dimension.now touched.now result) }
+    ensures moved { WhenOfCommands S.Store tables.old tables.new (λ limits commands. format ≡ format_of commands → MovesFacts limits commands dimension.now touched.now result) }
 {
     let Some(from) = first_moving(touched) else {
         return Ok(Vec::new(alloc));

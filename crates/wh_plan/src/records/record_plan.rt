@@ -11,8 +11,8 @@ ghost use Rattle.wh_model.specs.Defined.{command_at};
 ghost use Rattle.wh_plan.specs.BatchRows.{AreBatchRows};
 ghost use Rattle.wh_plan.specs.NewRows.{Records, members_among, naturals_told, rows_of_members};
 ghost use Rattle.wh_plan.specs.Reading.{HaveNoEmptyValue};
-ghost use Rattle.wh_store.specs.Reads.{ReadsOnly, state_of};
-ghost use Rattle.wh_plan.specs.Reads.{Finds};
+ghost use Rattle.wh_store.specs.Reads.{ReadsOnlyIn};
+ghost use Rattle.wh_plan.specs.Reads.{WhenOfCommands};
 ghost use Rattle.wh_plan.specs.RecordPlan.{AreTouched, IsFound, IsPlanned, PlansRecords};
 ghost use Rattle.wh_model.specs.Sound.{AreTypes, IsAccepted};
 
@@ -43,8 +43,8 @@ fn stored_members<S: Alter>(
     dim: Dim,
     naturals: &[Value],
 ) -> Result<Vec<Member>, ReadFault>
-    ensures reads { ReadsOnly (state_of S.Store tables.old) (state_of S.Store tables.new) result }
-    ensures members { Finds (state_of S.Store tables.old) (state_of S.Store tables.new) (λ _ commands. HaveNoEmptyValue commands → IfOk result (λ members. members.items ≡ map (member_of dim commands) naturals.now)) }
+    ensures reads { ReadsOnlyIn S.Store tables.old tables.new result }
+    ensures members { WhenOfCommands S.Store tables.old tables.new (λ _ commands. HaveNoEmptyValue commands → IfOk result (λ members. members.items ≡ map (member_of dim commands) naturals.now)) }
 {
     let mut found = Vec::new(alloc);
     for natural in naturals {
@@ -60,8 +60,8 @@ fn rows_of_member<S: Alter>(
     dim: Dim,
     member: &Member,
 ) -> Result<Vec<DimRow>, ReadFault>
-    ensures reads { ReadsOnly (state_of S.Store tables.old) (state_of S.Store tables.new) result }
-    ensures rows { Finds (state_of S.Store tables.old) (state_of S.Store tables.new) (λ _ commands. RecordsHaveDays commands → (natural : List ℕ) → member.now ≡ member_of dim commands natural → IfOk result (λ rows. (key : ℕ) → row_of key rows.items ≡ row_of key (rows_of_members commands dim (members_among commands dim (natural ∷ []))))) }
+    ensures reads { ReadsOnlyIn S.Store tables.old tables.new result }
+    ensures rows { WhenOfCommands S.Store tables.old tables.new (λ _ commands. RecordsHaveDays commands → (natural : List ℕ) → member.now ≡ member_of dim commands natural → IfOk result (λ rows. (key : ℕ) → row_of key rows.items ≡ row_of key (rows_of_members commands dim (members_among commands dim (natural ∷ []))))) }
 {
     if member.durable == 0 {
         return Ok(Vec::new(alloc));
@@ -76,8 +76,8 @@ fn rows_of_stored<S: Alter>(
     dim: Dim,
     members: &[Member],
 ) -> Result<Vec<DimRow>, ReadFault>
-    ensures reads { ReadsOnly (state_of S.Store tables.old) (state_of S.Store tables.new) result }
-    ensures rows { Finds (state_of S.Store tables.old) (state_of S.Store tables.new) (λ _ commands. RecordsHaveDays commands → (naturals : List (List ℕ)) → members.now ≡ map (member_of dim commands) naturals → IfOk result (λ rows. (key : ℕ) → row_of key rows.items ≡ row_of key (rows_of_members commands dim (members_among commands dim naturals)))) }
+    ensures reads { ReadsOnlyIn S.Store tables.old tables.new result }
+    ensures rows { WhenOfCommands S.Store tables.old tables.new (λ _ commands. RecordsHaveDays commands → (naturals : List (List ℕ)) → members.now ≡ map (member_of dim commands) naturals → IfOk result (λ rows. (key : ℕ) → row_of key rows.items ≡ row_of key (rows_of_members commands dim (members_among commands dim naturals)))) }
 {
     let mut found = Vec::new(alloc);
     for member in members {
@@ -104,8 +104,8 @@ fn read_touched<S: Alter>(
     dim: Dim,
     records: &[DimensionRecord],
 ) -> Result<StoredBefore, ReadFault>
-    ensures reads { ReadsOnly (state_of S.Store tables.old) (state_of S.Store tables.new) result }
-    ensures found { Finds (state_of S.Store tables.old) (state_of S.Store tables.new) (λ limits commands. (c : Accepted) → IsAccepted limits (commands ++ c ∷ []) → c.content ≡ Describes dim records.now → IfOk result (IsFound dim commands records.now)) }
+    ensures reads { ReadsOnlyIn S.Store tables.old tables.new result }
+    ensures found { WhenOfCommands S.Store tables.old tables.new (λ limits commands. (c : Accepted) → IsAccepted limits (commands ++ c ∷ []) → c.content ≡ Describes dim records.now → IfOk result (IsFound dim commands records.now)) }
     ensures few { IfOk result (λ found. (found.drawn.members ≤ greatest_number) × (found.drawn.anchors ≤ greatest_number)) }
 {
     let naturals = naturals_told(alloc, records)?;
@@ -193,8 +193,8 @@ pub fn plan_batch<S: Alter>(
     command: CommandRow,
     records: &[DimensionRecord],
 ) -> Result<Edits, ReadFault>
-    ensures reads { ReadsOnly (state_of S.Store tables.old) (state_of S.Store tables.new) result }
-    ensures edits { Finds (state_of S.Store tables.old) (state_of S.Store tables.new) (λ limits commands. terms.now.format ≡ format_of commands → PlansRecords limits commands dim records.now terms.now.policy.now command result) }
+    ensures reads { ReadsOnlyIn S.Store tables.old tables.new result }
+    ensures edits { WhenOfCommands S.Store tables.old tables.new (λ limits commands. terms.now.format ≡ format_of commands → PlansRecords limits commands dim records.now terms.now.policy.now command result) }
     // Whatever is stored, a command that is planned writes its own row.
     ensures own { IfOk result (λ edits. length edits.commands ≡ 1) }
 {

@@ -10,8 +10,8 @@ ghost use Rattle.wh_model.specs.Sound.{IsAccepted, same_line};
 ghost use Rattle.wh_plan.specs.SoldMembers.{IsSoldDimension};
 ghost use Rattle.wh_plan.specs.BatchRows.{AreBatchRows, IsNewLine};
 ghost use Rattle.wh_plan.specs.Edits.{AreEdits};
-ghost use Rattle.wh_store.specs.Reads.{ReadsOnly, state_of};
-ghost use Rattle.wh_plan.specs.Reads.{Finds};
+ghost use Rattle.wh_store.specs.Reads.{ReadsOnlyIn};
+ghost use Rattle.wh_plan.specs.Reads.{WhenOfCommands};
 
 use crate::batch_rows::{BatchRows, edits_of_batch};
 use crate::edits::Edits;
@@ -76,8 +76,8 @@ pub fn plan_sales<S: Alter>(
     command: CommandRow,
     sales: &[SaleRecord],
 ) -> Result<Edits, ReadFault>
-    ensures reads { ReadsOnly (state_of S.Store tables.old) (state_of S.Store tables.new) result }
-    ensures edits { Finds (state_of S.Store tables.old) (state_of S.Store tables.new) (λ limits commands. IsAccepted limits commands → terms.now.format ≡ format_of commands → (c : Accepted) → IsAccepted limits (commands ++ c ∷ []) → c.content ≡ Sells sales.now → policy_after None commands ≡ Some terms.now.policy.now → IsSound terms.now.policy.now
+    ensures reads { ReadsOnlyIn S.Store tables.old tables.new result }
+    ensures edits { WhenOfCommands S.Store tables.old tables.new (λ limits commands. IsAccepted limits commands → terms.now.format ≡ format_of commands → (c : Accepted) → IsAccepted limits (commands ++ c ∷ []) → c.content ≡ Sells sales.now → policy_after None commands ≡ Some terms.now.policy.now → IsSound terms.now.policy.now
         → command_at (commands ++ c ∷ []) (suc (length commands)) ≡ Some (record command { placeholders = placeholders_by (commands ++ c ∷ []) (suc (length commands)) c.content }) → IfOk result (AreEdits commands (commands ++ c ∷ []))) }
     // Whatever is stored, a command that is planned writes its own row.
     ensures own { IfOk result (λ edits. length edits.commands ≡ 1) }

@@ -9,8 +9,8 @@ ghost use Rattle.wh_history.specs.Shapes.{shown};
 ghost use Rattle.wh_history.specs.declared.plan.Edit.TheVariants.{Put};
 ghost use Rattle.wh_policy.specs.Written.{IsSound};
 ghost use Rattle.wh_plan.specs.Reading.{HaveNoEmptyValue};
-ghost use Rattle.wh_store.specs.Reads.{ReadsOnly, state_of};
-ghost use Rattle.wh_plan.specs.Reads.{Finds};
+ghost use Rattle.wh_store.specs.Reads.{ReadsOnlyIn};
+ghost use Rattle.wh_plan.specs.Reads.{WhenOfCommands};
 ghost use Rattle.wh_plan.specs.SoldMembers.{naturals_sold, numbered, placeholder, FindsSold, IsSoldDimension};
 ghost use Rattle.wh_model.specs.Sound.{AreTypes};
 
@@ -38,8 +38,8 @@ fn members_with_numbers<S: Alter>(
 ) -> Result<Vec<Member>, ReadFault>
     requires members { drawn.members ≤ greatest_number }
     requires anchors { drawn.anchors ≤ greatest_number }
-    ensures reads { ReadsOnly (state_of S.Store tables.old) (state_of S.Store tables.new) result }
-    ensures members { Finds (state_of S.Store tables.old) (state_of S.Store tables.new) (λ _ commands. HaveNoEmptyValue commands → IfOk result (λ members. members.items ≡ numbered drawn.members drawn.anchors (map (member_of dim commands) naturals.now))) }
+    ensures reads { ReadsOnlyIn S.Store tables.old tables.new result }
+    ensures members { WhenOfCommands S.Store tables.old tables.new (λ _ commands. HaveNoEmptyValue commands → IfOk result (λ members. members.items ≡ numbered drawn.members drawn.anchors (map (member_of dim commands) naturals.now))) }
 {
     let mut members = drawn.members;
     let mut anchors = drawn.anchors;
@@ -127,8 +127,8 @@ pub(crate) fn read_sold_dimension<S: Alter>(
     dim: Dim,
     sales: &[SaleRecord],
 ) -> Result<SoldDimension, ReadFault>
-    ensures reads { ReadsOnly (state_of S.Store tables.old) (state_of S.Store tables.new) result }
-    ensures sold { Finds (state_of S.Store tables.old) (state_of S.Store tables.new) (λ _ commands. FindsSold commands dim sales.now policy.now result) }
+    ensures reads { ReadsOnlyIn S.Store tables.old tables.new result }
+    ensures sold { WhenOfCommands S.Store tables.old tables.new (λ _ commands. FindsSold commands dim sales.now policy.now result) }
     ensures many { IfOk result (λ sold. length sold.keys.items ≡ length sales.now) }
 {
     let naturals = naturals_sold(alloc, dim, sales)?;

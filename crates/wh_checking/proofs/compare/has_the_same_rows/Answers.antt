@@ -31,15 +31,15 @@ returns-in_err-row-clause-damaged g c clean stored at =
     let read = c.in_err-row.ensures in
     let p = err_from_is_err_and c.from_residual.result c.from_residual.ensures.1 in
     rw (p.1, p.2) (part_damaged (forward g.T.PagedTable.part_texts.most) g.T.StoredTable.layout g.T.KeyedTable.name (stands_behind g.T.StoredTable.layout g.T.KeyedTable.bind c.rows.cursor.unread.after) (stored.rows g.T.KeyedTable.name) c.in_err-row.field-0.0
-    (read.damaged clean stored (stored_again c.rows.invariant.reads.spares (read.reads.spares.clean clean) stored at tt)))
+    (read.next.damaged clean stored (stored_again c.rows.invariant.reads.spares (read.next.reads.spares.clean clean) stored at tt)))
 
 pub returns-in_err-end-in-None-clause-reads : goal.returns-in_err-end-in-None-clause-reads
 returns-in_err-end-in-None-clause-reads g c =
     let p = err_from_is_err_and c.from_residual-in_err-end-in-None.result c.from_residual-in_err-end-in-None.ensures.1 in
-    rw (p.1, p.2) (runs_out (then_reads c.rows.invariant.reads c.in_ok-row.ensures.reads))
+    rw (p.1, p.2) (runs_out (then_reads c.rows.invariant.reads c.in_ok-row.ensures.next.reads))
 
 pub returns-in-None-clause-reads : goal.returns-in-None-clause-reads
-returns-in-None-clause-reads g c = answers_other (then_reads c.rows.invariant.reads c.in_ok-row.ensures.reads)
+returns-in-None-clause-reads g c = answers_other (then_reads c.rows.invariant.reads c.in_ok-row.ensures.next.reads)
 
 pub returns-in-None-clause-rests : goal.returns-in-None-clause-rests
 returns-in-None-clause-rests g c t at = c.in_ok-end-in-None.ensures.rests t (c.rows.invariant.rests t at)
@@ -55,9 +55,9 @@ returns-then-not-same-clause-same g c clean stored at here t there rest =
     let all = listed layout m (get m) (placed.keyed second t rest.1.now.tables) (placed.valid second t rest.1.now.tables) (λ _. refl) in
     let kept = c.rows.invariant in
     let read = c.in_ok-row.ensures in
-    let before = read.reads.spares.clean clean in
+    let before = read.next.reads.spares.clean clean in
     let Left = AreLeft layout bind rows c.rows.cursor in
-    let ends : Left [] = subst (λ (found : Option _). HandsOutOf layout bind rows c.rows.cursor found c.next_row.new.cursor) c.in-None.is (read.stored clean stored here (stored_again kept.reads.spares before stored at tt)) in
+    let ends : Left [] = subst (λ (found : Option _). HandsOutOf layout bind rows c.rows.cursor found c.next_row.new.cursor) c.in-None.is (read.next.stored clean stored here (stored_again kept.reads.spares before stored at tt)) in
     let once = g.met.T.PagedTable.once (state_of g.S.Store c.args.tables.now).now stored at.now in
     let left = rows_left layout m c.rows.ahead in
     let seen : HasSeen layout rows (values m) left Left false = subst (HasSeen layout rows (values m) left Left) c.if-not-same.true (kept.seen before stored at here t there rest) in
@@ -75,9 +75,9 @@ returns-in-None-clause-same g c clean stored at here t there rest =
     let all = listed layout m (get m) (placed.keyed second t rest.1.now.tables) (placed.valid second t rest.1.now.tables) (λ _. refl) in
     let kept = c.rows.invariant in
     let read = c.in_ok-row.ensures in
-    let before = read.reads.spares.clean clean in
+    let before = read.next.reads.spares.clean clean in
     let Left = AreLeft layout bind rows c.rows.cursor in
-    let ends : Left [] = subst (λ (found : Option _). HandsOutOf layout bind rows c.rows.cursor found c.next_row.new.cursor) c.in-None.is (read.stored clean stored here (stored_again kept.reads.spares before stored at tt)) in
+    let ends : Left [] = subst (λ (found : Option _). HandsOutOf layout bind rows c.rows.cursor found c.next_row.new.cursor) c.in-None.is (read.next.stored clean stored here (stored_again kept.reads.spares before stored at tt)) in
     let once = g.met.T.PagedTable.once (state_of g.S.Store c.args.tables.now).now stored at.now in
     let left = rows_left layout m c.rows.ahead in
     let seen : HasSeen layout rows (values m) left Left true = subst (HasSeen layout rows (values m) left Left) c.if-not-same.false (kept.seen before stored at here t there rest) in
@@ -93,22 +93,22 @@ rows-preserved g c =
     let read = c.in_ok-row.ensures in
     let row = c.in-Some.row in
     record {
-      reads = answers_other (then_reads kept.reads read.reads);
+      reads = answers_other (then_reads kept.reads read.next.reads);
       rests = λ t at. elim c.if-same.branch [
         | then-same+in_ok-same-in-Some w ↦ rw w.expected-is (w.in_ok-same-in-Some.ensures.rests t (kept.rests t at))
         | else-same w ↦ rw w.expected-is (kept.rests t at)
       ];
       valid = λ clean stored at here.
-          let before = read.reads.spares.clean clean in
+          let before = read.next.reads.spares.clean clean in
           (read.valid clean stored here (stored_again kept.reads.spares before stored at tt) (kept.valid before stored at here)).1;
       seen = λ clean stored at here t there rest.
-          let before = read.reads.spares.clean clean in
+          let before = read.next.reads.spares.clean clean in
           let rows = stored.rows g.T.KeyedTable.name in
           let m = g.T.StoredTable.rows t in
           let then_at = stored_again kept.reads.spares before stored at tt in
           let Left = AreLeft layout bind rows c.rows.cursor in
           let Rest = AreLeft layout bind rows c.next_row.new.cursor in
-          let hands : (left : List Row) → Rest left → Left (layout.encode row ∷ left) = subst (λ (found : Option _). HandsOutOf layout bind rows c.rows.cursor found c.next_row.new.cursor) c.in-Some.is (read.stored clean stored here then_at) in
+          let hands : (left : List Row) → Rest left → Left (layout.encode row ∷ left) = subst (λ (found : Option _). HandsOutOf layout bind rows c.rows.cursor found c.next_row.new.cursor) c.in-Some.is (read.next.stored clean stored here then_at) in
           let good : IsTrue (layout.is_valid row) = subst (λ (found : Option _). IfSome found (λ r. IsTrue (layout.is_valid r))) c.in-Some.is (read.valid clean stored here then_at (kept.valid before stored at here)).0 in
           let once = g.met.T.PagedTable.once (state_of g.S.Store c.args.tables.now).now stored at.now in
           let keyed = g.met.T.PagedTable.keyed in
@@ -127,4 +127,4 @@ rows-preserved g c =
     }
 
 pub returns-in_err-row-clause-reads : goal.returns-in_err-row-clause-reads
-returns-in_err-row-clause-reads g c = then_failed c.rows.invariant.reads c.in_err-row.ensures.reads c.from_residual.ensures
+returns-in_err-row-clause-reads g c = then_failed c.rows.invariant.reads c.in_err-row.ensures.next.reads c.from_residual.ensures

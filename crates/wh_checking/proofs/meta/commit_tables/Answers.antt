@@ -16,6 +16,6 @@ returns c =
     let made = λ (rests : IsAtRest None (state_of over_memory c.args.tables.now)) (valid : IsTrue (row.meta.is_valid c.args.row.now)).
     let begun = c.in_ok-writing.ensures.begun (is_clean c.in_ok-writing.writing.tables.now.conn) None rests in
     let written = c.in_ok-init.ensures.made (is_clean c.init.new.self.tables.now.conn) begun in
-    let put = c.in_ok-put.ensures.put (is_clean c.put.new.self.tables.now.conn) None (made_with c.args.limits) written valid in
+    let put = c.in_ok-put.ensures.edited (is_clean c.put.new.self.tables.now.conn) None (made_with c.args.limits) written valid in
     c.commit.ensures.written (is_clean end.conn) None (Some (made_saying c.args.limits c.args.row.now)) put in
     rw same at made

@@ -35,19 +35,19 @@ rows-init g c =
 pub returns-in_err-row-clause-reads : goal.returns-in_err-row-clause-reads
 returns-in_err-row-clause-reads g c =
     let p = err_from_is_err_and c.from_residual.result c.from_residual.ensures.1 in
-    rw (p.1, p.2) (fails_other (then_reads c.rows.invariant.reads c.in_err-row.ensures.reads))
+    rw (p.1, p.2) (fails_other (then_reads c.rows.invariant.reads c.in_err-row.ensures.next.reads))
 
 pub returns-in_err-row-clause-damaged : goal.returns-in_err-row-clause-damaged
 returns-in_err-row-clause-damaged g c clean stored at =
     let read = c.in_err-row.ensures in
     let p = err_from_is_err_and c.from_residual.result c.from_residual.ensures.1 in
     rw (p.1, p.2) (part_damaged (forward texts.command.most) row.command Command (stands_behind row.command bind_number c.rows.cursor.unread.after) (stored.rows Command) c.in_err-row.field-0.0
-    (read.damaged clean stored (stored_again c.rows.invariant.reads.spares (read.reads.spares.clean clean) stored at tt)))
+    (read.next.damaged clean stored (stored_again c.rows.invariant.reads.spares (read.next.reads.spares.clean clean) stored at tt)))
 
 pub returns-in_err-is_list-in-Some-clause-reads : goal.returns-in_err-is_list-in-Some-clause-reads
 returns-in_err-is_list-in-Some-clause-reads g c =
     let p = err_from_is_err_and c.from_residual-in_err-is_list-in-Some.result c.from_residual-in_err-is_list-in-Some.ensures.1 in
-    rw (p.1, p.2) (runs_out (then_reads c.rows.invariant.reads c.in_ok-row.ensures.reads))
+    rw (p.1, p.2) (runs_out (then_reads c.rows.invariant.reads c.in_ok-row.ensures.next.reads))
 
 pub returns-in_err-is_list-in-Some-clause-damaged : goal.returns-in_err-is_list-in-Some-clause-damaged
 returns-in_err-is_list-in-Some-clause-damaged g c clean stored at =
@@ -55,15 +55,15 @@ returns-in_err-is_list-in-Some-clause-damaged g c clean stored at =
     rw (p.1, p.2) tt
 
 pub returns-in-None-clause-reads : goal.returns-in-None-clause-reads
-returns-in-None-clause-reads g c = answers_other (then_reads c.rows.invariant.reads c.in_ok-row.ensures.reads)
+returns-in-None-clause-reads g c = answers_other (then_reads c.rows.invariant.reads c.in_ok-row.ensures.next.reads)
 
 pub returns-in-None-clause-replicated : goal.returns-in-None-clause-replicated
 returns-in-None-clause-replicated g c clean stored at =
     let kept = c.rows.invariant in
     let read = c.in_ok-row.ensures in
-    let before = read.reads.spares.clean clean in
+    let before = read.next.reads.spares.clean clean in
     let Left = AreLeft row.command bind_number (stored.rows Command) c.rows.cursor in
-    let ends : Left [] = subst (λ (found : Option CommandRow). HandsOutOf row.command bind_number (stored.rows Command) c.rows.cursor found c.next_row.new.cursor) c.in-None.is (read.stored clean stored refl (stored_again kept.reads.spares before stored at tt)) in
+    let ends : Left [] = subst (λ (found : Option CommandRow). HandsOutOf row.command bind_number (stored.rows Command) c.rows.cursor found c.next_row.new.cursor) c.in-None.is (read.next.stored clean stored refl (stored_again kept.reads.spares before stored at tt)) in
     told_of (stored_in c.args.format stored) c.args.limits command_keyed (once.command (state_of g.S.Store c.args.tables.now).now stored at.now) Left ends c.rows.replica c.rows.is_list c.replica_tables.result c.replica_tables.ensures (kept.replicated before stored at)
 
 pub rows-preserved : goal.rows-preserved
@@ -72,16 +72,16 @@ rows-preserved g c =
     let read = c.in_ok-row.ensures in
     let r = c.in-Some.row in
     record {
-      reads = answers_other (then_reads kept.reads read.reads);
+      reads = answers_other (then_reads kept.reads read.next.reads);
       valid = λ clean stored at.
-          let before = read.reads.spares.clean clean in
+          let before = read.next.reads.spares.clean clean in
           (read.valid clean stored refl (stored_again kept.reads.spares before stored at tt) (kept.valid before stored at)).1;
       replicated = λ clean stored at.
-          let before = read.reads.spares.clean clean in
+          let before = read.next.reads.spares.clean clean in
           let then_at = stored_again kept.reads.spares before stored at tt in
           let Left = AreLeft row.command bind_number (stored.rows Command) c.rows.cursor in
           let Rest = AreLeft row.command bind_number (stored.rows Command) c.next_row.new.cursor in
-          let hands : (left : List Row) → Rest left → Left (row.command.encode r ∷ left) = subst (λ (found : Option CommandRow). HandsOutOf row.command bind_number (stored.rows Command) c.rows.cursor found c.next_row.new.cursor) c.in-Some.is (read.stored clean stored refl then_at) in
+          let hands : (left : List Row) → Rest left → Left (row.command.encode r ∷ left) = subst (λ (found : Option CommandRow). HandsOutOf row.command bind_number (stored.rows Command) c.rows.cursor found c.next_row.new.cursor) c.in-Some.is (read.next.stored clean stored refl then_at) in
           let good : IsTrue (row.command.is_valid r) = subst (λ (found : Option CommandRow). IfSome found (λ v. IsTrue (row.command.is_valid v))) c.in-Some.is (read.valid clean stored refl then_at (kept.valid before stored at)).0 in
           let now : (is : Bool) → c.rows.is_list ≡ is → HasReplicated (stored.rows Command) c.args.limits Left c.rows.replica is = λ is same. subst (HasReplicated (stored.rows Command) c.args.limits Left c.rows.replica) same (kept.replicated before stored at) in
           elim c.if-is_list.branch [

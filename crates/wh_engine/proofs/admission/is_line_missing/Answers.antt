@@ -10,7 +10,7 @@ pub returns-clause-missing : goal.returns-clause-missing
 returns-clause-missing g c clean limits commands t are rests same =
     let void = c.args.void.now in
     let ticket = c.in_ok-new.ensures ∙ c.as_str.ensures in
-    let stored = ap is_some (c.in_ok-fact.ensures.row clean t rests ∙ facts_in_are limits commands t are c.args.format same _)
+    let stored = ap is_some (c.in_ok-fact.ensures.rows clean t rests ∙ facts_in_are limits commands t are c.args.format same _)
     ∙ ap (λ text. is_some (fact_at commands (record { ticket = text; line = void.line }))) ticket
     ∙ fact_stored commands (record { ticket = void.ticket; line = void.line }) in
     sym (turned_twice c.is_none.result) ∙ ap not (sym c.is_none.ensures ∙ stored)

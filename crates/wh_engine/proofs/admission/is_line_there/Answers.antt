@@ -12,7 +12,7 @@ pub returns-then-is_some-clause-there : goal.returns-then-is_some-clause-there
 returns-then-is_some-clause-there g c clean limits commands t are rests same accepted =
     let sale = c.args.sale.now in
     let ticket = c.in_ok-new.ensures ∙ c.as_str.ensures in
-    let fact = c.is_some.ensures ∙ ap is_some (c.in_ok-fact.ensures.row clean t rests ∙ facts_in_are limits commands t are c.args.format same _) ∙ ap (λ text. is_some (fact_at commands (record { ticket = text; line = sale.line }))) ticket in
+    let fact = c.is_some.ensures ∙ ap is_some (c.in_ok-fact.ensures.rows clean t rests ∙ facts_in_are limits commands t are c.args.format same _) ∙ ap (λ text. is_some (fact_at commands (record { ticket = text; line = sale.line }))) ticket in
     sym (line_known commands sale limits accepted ∙ ap (λ b. b || is_some (void_at commands (record { ticket = sale.ticket; line = sale.line }))) (sym fact ∙ c.if-is_some.true))
 
 pub returns-clause-there : goal.returns-clause-there
@@ -21,7 +21,7 @@ returns-clause-there g c clean limits commands t are rests same accepted =
     let before = c.is_withdrawn.ensures.reads.spares.clean clean in
     let still = tables_again c.in_ok-fact.ensures.reads.spares before t rests tt in
     let ticket = c.in_ok-new.ensures ∙ c.as_str.ensures in
-    let fact = c.is_some.ensures ∙ ap is_some (c.in_ok-fact.ensures.row before t rests ∙ facts_in_are limits commands t are c.args.format same _) ∙ ap (λ text. is_some (fact_at commands (record { ticket = text; line = sale.line }))) ticket in
+    let fact = c.is_some.ensures ∙ ap is_some (c.in_ok-fact.ensures.rows before t rests ∙ facts_in_are limits commands t are c.args.format same _) ∙ ap (λ text. is_some (fact_at commands (record { ticket = text; line = sale.line }))) ticket in
     let none : is_some (fact_at commands (record { ticket = sale.ticket; line = sale.line })) ≡ false = sym fact ∙ c.if-is_some.false in
     IfOk-weaker c.is_withdrawn.result _ _
     (λ withdrawn is. is ∙ ap (λ text. is_some (void_at commands (record { ticket = text; line = sale.line }))) ticket

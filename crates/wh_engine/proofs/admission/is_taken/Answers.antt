@@ -8,7 +8,7 @@ use Rattle.wh_rows.specs.declared.table.Table.TheVariants as table
 use Rattle.wh_engine.proofs.admission.is_taken.Goals as goal
 
 pub returns-clause-taken : goal.returns-clause-taken
-returns-clause-taken g c clean limits commands t are rests = c.is_some.ensures ∙ ap is_some (c.in_ok-row.ensures.row clean t rests ∙ are.command c.args.number)
+returns-clause-taken g c clean limits commands t are rests = c.is_some.ensures ∙ ap is_some (c.in_ok-row.ensures.rows clean t rests ∙ are.command c.args.number)
 
 pub returns-clause-free : goal.returns-clause-free
 returns-clause-free g c clean stored rests untaken =

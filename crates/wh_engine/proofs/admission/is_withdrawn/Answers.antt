@@ -10,4 +10,4 @@ returns-in-One-clause-withdrawn g c clean limits commands t are rests same accep
     sym (void_stored commands line ∙ ap (withdraws_line line.ticket line.line) (accepted.unwithdrawn (sym same ∙ c.in-One.is)))
 
 pub returns-in_ok-row-in-Two-clause-withdrawn : goal.returns-in_ok-row-in-Two-clause-withdrawn
-returns-in_ok-row-in-Two-clause-withdrawn g c clean limits commands t are rests same accepted = c.is_some.ensures ∙ ap is_some (c.in_ok-row-in-Two.ensures.row clean t rests ∙ are.void c.args.line.now)
+returns-in_ok-row-in-Two-clause-withdrawn g c clean limits commands t are rests same accepted = c.is_some.ensures ∙ ap is_some (c.in_ok-row-in-Two.ensures.rows clean t rests ∙ are.void c.args.line.now)

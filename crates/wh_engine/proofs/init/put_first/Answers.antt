@@ -15,7 +15,7 @@ returns-in_err-put-2-clause-writes g c = record {
   counts = omega (arith, c.put.ensures.writes.counts, c.put-2.ensures.writes.counts);
   left = λ clean before made at may.
       let one = c.put-2.ensures.writes.clean clean in
-      c.put-2.ensures.writes.left clean before _ (c.in_ok-put.ensures.put one before made at may.command) tt;
+      c.put-2.ensures.writes.left clean before _ (c.in_ok-put.ensures.edited one before made at may.command) tt;
 }
 
 pub returns-in_err-put_all-clause-writes : goal.returns-in_err-put_all-clause-writes
@@ -25,7 +25,7 @@ returns-in_err-put_all-clause-writes g c = record {
   left = λ clean before made at may.
       let two = c.put_all.ensures.writes.clean clean in
       let one = c.put-2.ensures.writes.clean two in
-      c.put_all.ensures.writes.left clean before _ (c.in_ok-put-2.ensures.put two before _ (c.in_ok-put.ensures.put one before made at may.command) may.customer) may.profiles;
+      c.put_all.ensures.writes.left clean before _ (c.in_ok-put-2.ensures.edited two before _ (c.in_ok-put.ensures.edited one before made at may.command) may.customer) may.profiles;
 }
 
 pub returns-clause-put : goal.returns-clause-put
@@ -33,7 +33,7 @@ returns-clause-put g c clean before made at may =
     let three = c.put_all-2.ensures.writes.clean clean in
     let two = c.put_all.ensures.writes.clean three in
     let one = c.put-2.ensures.writes.clean two in
-    c.put_all-2.ensures.put clean before _ (c.in_ok-put_all.ensures.put three before _ (c.in_ok-put-2.ensures.put two before _ (c.in_ok-put.ensures.put one before made at may.command) may.customer) may.profiles) may.calendar
+    c.put_all-2.ensures.edited clean before _ (c.in_ok-put_all.ensures.edited three before _ (c.in_ok-put-2.ensures.edited two before _ (c.in_ok-put.ensures.edited one before made at may.command) may.customer) may.profiles) may.calendar
 
 pub returns-clause-writes : goal.returns-clause-writes
 returns-clause-writes g c = record {
@@ -43,5 +43,5 @@ returns-clause-writes g c = record {
       let three = c.put_all-2.ensures.writes.clean clean in
       let two = c.put_all.ensures.writes.clean three in
       let one = c.put-2.ensures.writes.clean two in
-      c.put_all-2.ensures.writes.left clean before _ (c.in_ok-put_all.ensures.put three before _ (c.in_ok-put-2.ensures.put two before _ (c.in_ok-put.ensures.put one before made at may.command) may.customer) may.profiles) may.calendar;
+      c.put_all-2.ensures.writes.left clean before _ (c.in_ok-put_all.ensures.edited three before _ (c.in_ok-put-2.ensures.edited two before _ (c.in_ok-put.ensures.edited one before made at may.command) may.customer) may.profiles) may.calendar;
 }

@@ -13,5 +13,5 @@ returns-in_err-found-clause-hands g c =
       valid = λ clean stored same on valid. tt;
       named = λ clean stored on. (
           let layout = g.T.StoredTable.layout in
-          names_it (Some (forward g.T.PagedTable.part_texts.most)) layout g.T.KeyedTable.name (filter (stands_behind layout g.T.KeyedTable.bind c.args.cursor.now.unread.after) (stored.rows g.T.KeyedTable.name)) c.in_err-found.field-0.0 (c.in_err-found.ensures.damaged clean stored on));
+          names_it (Some (forward g.T.PagedTable.part_texts.most)) layout g.T.KeyedTable.name (filter (stands_behind layout g.T.KeyedTable.bind c.args.cursor.now.unread.after) (stored.rows g.T.KeyedTable.name)) c.in_err-found.field-0.0 (c.in_err-found.ensures.next.damaged clean stored on));
     })

@@ -10,7 +10,7 @@ pub returns-in_ok-stored_changes-in-Some-clause-member : goal.returns-in_ok-stor
 returns-in_ok-stored_changes-in-Some-clause-member g c clean limits commands t are at full =
     let before = c.stored_changes.ensures.reads.spares.clean clean in
     let row = c.in-Some.row in
-    let is : member_at commands (key_of c.args.dim c.args.durable) ≡ Some row = sym (are.member (key_of c.args.dim c.args.durable)) ∙ sym (c.in_ok-found.ensures.row before t at) ∙ c.in-Some.is in
+    let is : member_at commands (key_of c.args.dim c.args.durable) ≡ Some row = sym (are.member (key_of c.args.dim c.args.durable)) ∙ sym (c.in_ok-found.ensures.rows before t at) ∙ c.in-Some.is in
     let still = tables_again c.in_ok-found.ensures.reads.spares before t at tt in
     let given = number_given c.args.dim commands c.args.durable row is in
     let number = number_is c.args.dim commands c.args.durable row is in

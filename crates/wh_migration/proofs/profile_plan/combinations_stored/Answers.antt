@@ -28,18 +28,18 @@ records-preserved g c =
     record {
       reads = search rules;
       stored = λ clean t at.
-          let before = read.reads.spares.clean clean in
+          let before = read.next.reads.spares.clean clean in
           combined_further c.args.types.now c.records.found.items c.add_stored.new.found.items c.in-Some.row (rows_left row.change t.change c.records.cursor) (rows_left row.change t.change c.next_row.new.cursor) (with_combinations [] (flat_map (stored_by c.args.types.now) (values t.change)))
-          c.in_ok-add_stored-in-Some.ensures (subst (λ (found : Option ChangeRow). HandsOut (rows_left row.change t.change c.records.cursor) found (rows_left row.change t.change c.next_row.new.cursor)) c.in-Some.is (read.rows clean t refl (tables_again kept.reads.spares before t at tt))) (kept.stored before t at);
+          c.in_ok-add_stored-in-Some.ensures (subst (λ (found : Option ChangeRow). HandsOut (rows_left row.change t.change c.records.cursor) found (rows_left row.change t.change c.next_row.new.cursor)) c.in-Some.is (read.next.rows clean t refl (tables_again kept.reads.spares before t at tt))) (kept.stored before t at);
     }
 
 pub returns-in-None-clause-stored : goal.returns-in-None-clause-stored
 returns-in-None-clause-stored g c clean t at =
     let kept = c.records.invariant in
     let read = c.in_ok-row.ensures in
-    let before = read.reads.spares.clean clean in
+    let before = read.next.reads.spares.clean clean in
     combined_whole c.args.types.now c.records.found.items (rows_left row.change t.change c.records.cursor) (with_combinations [] (flat_map (stored_by c.args.types.now) (values t.change)))
-    (subst (λ (found : Option ChangeRow). HandsOut (rows_left row.change t.change c.records.cursor) found (rows_left row.change t.change c.next_row.new.cursor)) c.in-None.is (read.rows clean t refl (tables_again kept.reads.spares before t at tt))).0 (kept.stored before t at)
+    (subst (λ (found : Option ChangeRow). HandsOut (rows_left row.change t.change c.records.cursor) found (rows_left row.change t.change c.next_row.new.cursor)) c.in-None.is (read.next.rows clean t refl (tables_again kept.reads.spares before t at tt))).0 (kept.stored before t at)
 
 pub returns-in_err-row-clause-reads : goal.returns-in_err-row-clause-reads
-returns-in_err-row-clause-reads g c = then_failed c.records.invariant.reads c.in_err-row.ensures.reads c.from_residual.ensures
+returns-in_err-row-clause-reads g c = then_failed c.records.invariant.reads c.in_err-row.ensures.next.reads c.from_residual.ensures

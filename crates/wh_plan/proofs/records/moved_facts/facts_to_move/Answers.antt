@@ -27,4 +27,4 @@ returns-clause-moved g c clean limits commands t are at format sent records acce
     let found = c.in_ok-found.found.items in
     let made = c.in_ok-moved_facts.ensures ∙ ap (filter_map (moved_fact shape movers)) c.deref.ensures.value in
     facts_moved_in_any_order limits commands sent shape records t are accepted is typed c.args.touched.now touch c.args.format format c.in_ok-moved_facts.field-0.items
-    (λ apart. found_moved shape (facts_in c.args.format t) touched apart movers c.in_ok-members.ensures c.in-Some.from first found (c.in_ok-found.ensures.facts clean t at) c.in_ok-moved_facts.field-0.items made)
+    (λ apart. found_moved shape (facts_in c.args.format t) touched apart movers c.in_ok-members.ensures c.in-Some.from first found (c.in_ok-found.ensures.rows clean t at) c.in_ok-moved_facts.field-0.items made)

@@ -1,10 +1,10 @@
 use Rattle.wh_store.proofs.tables.Tables.all.Goals as goal
 
-pub returns-clause-rows : goal.returns-clause-rows
-returns-clause-rows g c clean t at = c.all.ensures.rows clean t at.now.tables
-
-pub returns-clause-stored : goal.returns-clause-stored
-returns-clause-stored g c clean stored at = c.all.ensures.stored clean stored at.now
-
-pub returns-clause-damaged : goal.returns-clause-damaged
-returns-clause-damaged g c clean stored at = c.all.ensures.damaged clean stored at.now
+pub returns : goal.returns
+returns g c = record {
+  reads = c.all.ensures.reads;
+  rows = λ clean t at. c.all.ensures.rows clean t at.now.tables;
+  stored = λ clean stored at. c.all.ensures.stored clean stored at.now;
+  damaged = λ clean stored at. c.all.ensures.damaged clean stored at.now;
+  refused = c.all.ensures.refused;
+}

@@ -1,10 +1,10 @@
 use Rattle.wh_store.proofs.tables.Tables.tally_facts.Goals as goal
 
-pub returns-clause-counted : goal.returns-clause-counted
-returns-clause-counted g c clean t at = c.tally_facts.ensures.counted clean t at.now.tables
-
-pub returns-clause-stored : goal.returns-clause-stored
-returns-clause-stored g c clean stored on = c.tally_facts.ensures.stored clean stored on.now
-
-pub returns-clause-damaged : goal.returns-clause-damaged
-returns-clause-damaged g c clean stored on = c.tally_facts.ensures.damaged clean stored on.now
+pub returns : goal.returns
+returns g c = record {
+  reads = c.tally_facts.ensures.reads;
+  rows = λ clean t at. c.tally_facts.ensures.counted clean t at.now.tables;
+  stored = λ clean stored at. c.tally_facts.ensures.stored clean stored at.now;
+  damaged = λ clean stored at. c.tally_facts.ensures.damaged clean stored at.now;
+  refused = c.tally_facts.ensures.refused;
+}

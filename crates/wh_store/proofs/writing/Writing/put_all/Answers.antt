@@ -1,4 +1,4 @@
-use Rattle.std.proofs.Common.{Some, subst, ◌∙◌, arith}
+use Rattle.std.proofs.Common.{rules, Some, subst, ◌∙◌, arith}
 use Rattle.std.proofs.lemmas.Result.{err_from_is_err_and}
 use Rattle.sqlite.specs.Held.{state}
 use Rattle.wh_rows.specs.AtRest.{IsWriting, IsCauseOf}
@@ -7,23 +7,6 @@ use Rattle.wh_store.specs.Edits.{IsValid}
 use Rattle.wh_store.proofs.Refusals.{is_among, one_refused}
 use Rattle.wh_store.proofs.Looping.{next_is, next_may, next_way, way_ends}
 use Rattle.wh_store.proofs.writing.Writing.put_all.Goals as goal
-
-pub returns-in_err-put-clause-writes : goal.returns-in_err-put-clause-writes
-returns-in_err-put-clause-writes g c = record {
-  clean = λ clean. c.loop-row.invariant.clean (c.put.ensures.writes.clean clean);
-  counts = omega (arith, c.loop-row.invariant.counts, c.put.ensures.writes.counts);
-  left = λ clean before made at may. let was = c.loop-row.invariant.put (c.put.ensures.writes.clean clean) before made at may in c.put.ensures.writes.left clean before was.0 was.1 tt;
-}
-
-pub returns-in_err-put-clause-cause : goal.returns-in_err-put-clause-cause
-returns-in_err-put-clause-cause g c clean before made at may room =
-    let was = c.loop-row.invariant.put (c.put.ensures.writes.clean clean) before made at may in
-    let among = is_among c.args.rows.now c.loop-row.row-index c.row-item.result c.loop-row-test.true c.row-item.is in
-    let next = next_is c.args.rows.now c.loop-row.row-index c.row-item.result c.loop-row-test.true c.row-item.is in
-    let one = next_may g.T.StoredTable.layout (with_row g.T.StoredTable.layout) (IsValid g.T.StoredTable.layout) g.T.StoredTable.rows g.T.StoredTable.with_rows g.met.T.KeyedTable.means.placed c.args.rows.now c.loop-row.row-index c.row-item.result was.0 _ next was.2 in
-    let refused = c.in_err-put.ensures.cause clean was.1.inside (omega (arith, c.loop-row.invariant.counted, c.loop-row-test.true, room)) one in
-    let p = err_from_is_err_and c.from_residual.result c.from_residual.ensures.1 in
-    rw (p.1, p.2) (λ other. one_refused g.S.Store c.args.self.now.tables.now.conn c.loop-row.self.tables.now.conn c.put.new.self.tables.now.conn c.loop-row.invariant.counts IsCauseOf (λ row. (g.T.KeyedTable.texts.put, g.T.StoredTable.layout.encode row)) c.args.rows.now c.row-item.result c.in_err-put.field-0.0 among (refused other))
 
 pub loop-row-preserved : goal.loop-row-preserved
 loop-row-preserved g c =
@@ -36,19 +19,47 @@ loop-row-preserved g c =
           let was = kept.put (c.put.ensures.writes.clean clean) before made at may in
           let next = next_is c.args.rows.now c.loop-row.row-index c.row-item.result c.loop-row-test.true c.row-item.is in
           let one = next_may g.T.StoredTable.layout (with_row g.T.StoredTable.layout) (IsValid g.T.StoredTable.layout) g.T.StoredTable.rows g.T.StoredTable.with_rows g.met.T.KeyedTable.means.placed c.args.rows.now c.loop-row.row-index c.row-item.result was.0 _ next was.2 in
-          (_, c.in_ok-put.ensures.put clean before was.0 was.1 one, next_way g.T.StoredTable.layout (with_row g.T.StoredTable.layout) (IsValid g.T.StoredTable.layout) g.T.StoredTable.rows g.T.StoredTable.with_rows g.met.T.KeyedTable.means.placed c.args.rows.now c.loop-row.row-index c.row-item.result was.0 _ next was.2);
+          (_, c.in_ok-put.ensures.edited clean before was.0 was.1 one, next_way g.T.StoredTable.layout (with_row g.T.StoredTable.layout) (IsValid g.T.StoredTable.layout) g.T.StoredTable.rows g.T.StoredTable.with_rows g.met.T.KeyedTable.means.placed c.args.rows.now c.loop-row.row-index c.row-item.result was.0 _ next was.2);
       counted = omega (arith, c.in_ok-put.ensures.counted, kept.counted);
       noted = c.in_ok-put.ensures.noted ∙ kept.noted;
     }
 
-pub returns-clause-put : goal.returns-clause-put
-returns-clause-put g c clean before made at may =
-    let was = c.loop-row.invariant.put clean before made at may in
-    subst (λ all. IsWriting before (Some all) (state g.S.Store c.loop-row.self.tables.now.conn)) (way_ends g.T.StoredTable.layout (with_row g.T.StoredTable.layout) (IsValid g.T.StoredTable.layout) g.T.StoredTable.rows g.T.StoredTable.with_rows g.met.T.KeyedTable.means.placed c.args.rows.now c.loop-row.row-index was.0 _ c.loop-row-test.false was.2) was.1
+pub returns-in_err-put : goal.returns-in_err-put
+returns-in_err-put g c =
+    let p = err_from_is_err_and c.from_residual.result c.from_residual.ensures.1 in
+    rw (p.1, p.2) (record {
+      same_reference = c.put.ensures.same_reference ∙ c.loop-row.invariant.same_reference;
+      writes =
+          record {
+            clean = λ clean. c.loop-row.invariant.clean (c.put.ensures.writes.clean clean);
+            counts = omega (arith, c.loop-row.invariant.counts, c.put.ensures.writes.counts);
+            left = λ clean before made at may. let was = c.loop-row.invariant.put (c.put.ensures.writes.clean clean) before made at may in c.put.ensures.writes.left clean before was.0 was.1 tt;
+          };
+      edited = λ clean before made at may. tt;
+      cause = λ clean before made at may types room.
+          let was = c.loop-row.invariant.put (c.put.ensures.writes.clean clean) before made at may in
+          let among = is_among c.args.rows.now c.loop-row.row-index c.row-item.result c.loop-row-test.true c.row-item.is in
+          let next = next_is c.args.rows.now c.loop-row.row-index c.row-item.result c.loop-row-test.true c.row-item.is in
+          let one = next_may g.T.StoredTable.layout (with_row g.T.StoredTable.layout) (IsValid g.T.StoredTable.layout) g.T.StoredTable.rows g.T.StoredTable.with_rows g.met.T.KeyedTable.means.placed c.args.rows.now c.loop-row.row-index c.row-item.result was.0 _ next was.2 in
+          let refused = c.in_err-put.ensures.cause clean was.1.inside (omega (arith, c.loop-row.invariant.counted, c.loop-row-test.true, room)) one in
+          (λ other. one_refused g.S.Store c.args.self.now.tables.now.conn c.loop-row.self.tables.now.conn c.put.new.self.tables.now.conn c.loop-row.invariant.counts IsCauseOf (λ row. (g.T.KeyedTable.texts.put, g.T.StoredTable.layout.encode row)) c.args.rows.now c.row-item.result c.in_err-put.field-0.0 among (refused other));
+      counted = tt;
+      noted = c.in_err-put.ensures.noted;
+    })
 
-pub returns-clause-writes : goal.returns-clause-writes
-returns-clause-writes g c = record {
-  clean = c.loop-row.invariant.clean;
-  counts = c.loop-row.invariant.counts;
-  left = λ clean before made at may. (c.loop-row.invariant.put clean before made at may).1.left;
+pub returns : goal.returns
+returns g c = record {
+  same_reference = c.loop-row.invariant.same_reference;
+  writes =
+      record {
+        clean = c.loop-row.invariant.clean;
+        counts = c.loop-row.invariant.counts;
+        left = λ clean before made at may. (c.loop-row.invariant.put clean before made at may).1.left;
+      };
+  edited = λ clean before made at may.
+      let was = c.loop-row.invariant.put clean before made at may in
+      subst (λ all. IsWriting before (Some all) (state g.S.Store c.loop-row.self.tables.now.conn)) (way_ends g.T.StoredTable.layout (with_row g.T.StoredTable.layout) (IsValid g.T.StoredTable.layout) g.T.StoredTable.rows g.T.StoredTable.with_rows g.met.T.KeyedTable.means.placed c.args.rows.now c.loop-row.row-index was.0 _ c.loop-row-test.false was.2) was.1;
+  cause = λ clean before made at may types room. tt;
+  counted = search rules;
+  noted = c.loop-row.invariant.noted;
 }

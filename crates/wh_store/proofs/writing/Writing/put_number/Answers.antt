@@ -10,17 +10,19 @@ use Rattle.std.specs.FinMap.{insert}
 use Rattle.std.proofs.lemmas.Str.{is_utf8-from_IsUtf8}
 use Rattle.wh_store.proofs.writing.Writing.put_number.Goals as goal
 
--- src/writing.rt:99:5
-pub returns-clause-put : goal.returns-clause-put
-returns-clause-put g c clean before made at may =
+pub returns : goal.returns
+returns g c =
     let same : c.in_ok-row.row ≡ (record { name = c.args.name.now; value = pos c.args.count }) = c.in_ok-row.ensures.ok in
     let utf8 : is_utf8 c.args.name.now ≡ true = is_utf8-from_IsUtf8 c.args.name.now c.utf8.name in
-    let put = c.put.ensures.put clean before made at (ap (λ (r : MetaRow). is_utf8 r.name) same ∙ utf8) in
-    subst (λ (r : MetaRow). OnOk c.put.result (IsWriting before (Some (record made { meta = insert made.meta r.name r })) (state g.S.Store c.put.new.self.tables.now.conn))) same put
-
-pub returns-clause-cause : goal.returns-clause-cause
-returns-clause-cause g c clean inside room number =
-    let same : c.in_ok-row.row ≡ (record { name = c.args.name.now; value = pos c.args.count }) = c.in_ok-row.ensures.ok in
-    let utf8 : is_utf8 c.args.name.now ≡ true = is_utf8-from_IsUtf8 c.args.name.now c.utf8.name in
-    let told = c.put.ensures.cause clean inside room (ap (λ (r : MetaRow). is_utf8 r.name) same ∙ utf8) in
-    subst (λ (r : MetaRow). IfErr c.put.result (λ cause. cause ≢ Memory → IsCauseOf texts.meta.put (encode_meta r) (state g.S.Store c.args.self.now.tables.now.conn) (state g.S.Store c.put.new.self.tables.now.conn) cause)) same told
+    record {
+      same_reference = c.put.ensures.same_reference;
+      writes = c.put.ensures.writes;
+      edited = λ clean before made at may.
+          let put = c.put.ensures.edited clean before made at (ap (λ (r : MetaRow). is_utf8 r.name) same ∙ utf8) in
+          subst (λ (r : MetaRow). OnOk c.put.result (IsWriting before (Some (record made { meta = insert made.meta r.name r })) (state g.S.Store c.put.new.self.tables.now.conn))) same put;
+      cause = λ clean inside room number.
+          let told = c.put.ensures.cause clean inside room (ap (λ (r : MetaRow). is_utf8 r.name) same ∙ utf8) in
+          subst (λ (r : MetaRow). IfErr c.put.result (λ cause. cause ≢ Memory → IsCauseOf texts.meta.put (encode_meta r) (state g.S.Store c.args.self.now.tables.now.conn) (state g.S.Store c.put.new.self.tables.now.conn) cause)) same told;
+      counted = c.put.ensures.counted;
+      noted = rw c.replace-refused.ensures.value at c.put.ensures.noted;
+    }
