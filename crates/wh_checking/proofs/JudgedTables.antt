@@ -18,8 +18,8 @@ use Rattle.wh_checking.specs.declared.verdict.Verdict.TheVariants.{Clean, Wrong}
 use Rattle.sqlite_trees.specs.declared.store.Store.{Ghosts}
 use Rattle.wh_rows.specs.Rows as row
 use Rattle.wh_sql.specs.Reads.{IsOfDamage}
-use Rattle.wh_store.specs.Reads.{state_of}
-use Rattle.wh_store.specs.declared.tables.Tables.{Tables}
+use Rattle.wh_sql.specs.Answers.{state_of}
+use Rattle.wh_sql.specs.declared.at_rest.Tables.{Tables}
 use Rattle.wh_checking.proofs.Assembling.{damaged_first, none_before_meta, meta_wrong, meta_before_command, command_wrong, defined_before, table_wrong, all_clean}
 use Rattle.wh_checking.specs.Meta.{AreLimitsSaid}
 use Rattle.wh_checking.specs.Judging.{IsDefinedIn, IsOfDamageIn}

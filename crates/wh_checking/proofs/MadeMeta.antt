@@ -9,7 +9,7 @@ use Rattle.wh_policy.specs.declared.format.Format.{Format}
 use Rattle.wh_policy.specs.declared.format.Format.TheVariants.{One}
 use Rattle.wh_history.specs.Tables.{Limits}
 use Rattle.wh_model.specs.Defined.{meta_at}
-use Rattle.wh_store.specs.Meta.{made_with}
+use Rattle.wh_sql.specs.Making.{made_with}
 use Rattle.wh_engine.proofs.MadeMeta.{named, put_text, meta_made as made_first}
 use Rattle.wh_checking.specs.Meta.{made_in}
 

@@ -13,8 +13,8 @@ use Rattle.wh_sql.specs.Described.{Described}
 use Rattle.wh_sql.specs.Reads.{IsOfDamage}
 use Rattle.wh_sql.specs.declared.fault.ReadFault.{ReadFault}
 use Rattle.wh_store.specs.Faithful.{RestsFaithfully}
-use Rattle.wh_store.specs.Reads.{ReadsOnly, state_of, SaysAsStored}
-use Rattle.wh_store.specs.declared.tables.Tables.{Tables}
+use Rattle.wh_sql.specs.Answers.{ReadsOnly, state_of, SaysAsStored}
+use Rattle.wh_sql.specs.declared.at_rest.Tables.{Tables}
 use Rattle.wh_admission.specs.Checked.{AreRowsAt, stored_in}
 
 -- It is so; or it isn't, and nothing is damaged.

@@ -8,7 +8,7 @@ use Rattle.wh_rows.specs.Raw.{Stored, HasDamage}
 use Rattle.wh_rows.specs.Rows as row
 use Rattle.wh_rows.specs.Tables.{Tables}
 use Rattle.wh_rows.specs.declared.rows.MetaRow.{MetaRow}
-use Rattle.wh_store.specs.Meta.{made_with}
+use Rattle.wh_sql.specs.Making.{made_with}
 use Rattle.wh_rows.specs.declared.table.Table.TheVariants.{Meta}
 use Rattle.wh_admission.specs.Checked.{SaysLimits}
 

@@ -14,8 +14,8 @@ use Rattle.wh_admission.specs.Admission.{AreAdmitted}
 use Rattle.wh_admission.specs.Checked.{AreRowsAt}
 use Rattle.wh_admission.specs.Steps.{IsNextRow}
 use Rattle.wh_store.specs.Faithful.{IsFaithful}
-use Rattle.wh_store.specs.Reads.{state_of}
-use Rattle.wh_store.specs.declared.tables.Tables.{Tables}
+use Rattle.wh_sql.specs.Answers.{state_of}
+use Rattle.wh_sql.specs.declared.at_rest.Tables.{Tables}
 use Rattle.wh_engine.specs.Answered.{Rests, IsReady}
 use Rattle.wh_engine.specs.declared.engine.Engine.{Engine}
 use Rattle.wh_checking.specs.declared.replica.Replica.{Replica}

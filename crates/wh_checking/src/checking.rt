@@ -5,7 +5,7 @@ ghost use Rattle.wh_history.specs.Accepted.{Accepted, format_of};
 ghost use Rattle.wh_history.specs.Tables.{Limits as LimitCounts};
 ghost use Rattle.wh_rows.specs.Tables.{Tables as TypedTables};
 ghost use Rattle.wh_store.specs.Faithful.{RestsFaithfully};
-ghost use Rattle.wh_store.specs.Reads.{IsServed, NamesDamage};
+ghost use Rattle.wh_sql.specs.Answers.{IsServed, NamesDamage};
 ghost use Rattle.wh_admission.specs.Checked.{Covers, SaysCommands, stored_in};
 ghost use Rattle.wh_checking.specs.Judged.{IsJudged};
 ghost use Rattle.wh_checking.specs.Checked.{IsChecked, IsCheckedOf};

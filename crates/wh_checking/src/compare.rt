@@ -6,7 +6,7 @@ ghost use Rattle.wh_rows.specs.Names.{is_there};
 ghost use Rattle.wh_rows.specs.Tables.{Tables as TypedTables};
 ghost use Rattle.wh_sql.specs.Reads.{IsOfDamage};
 ghost use Rattle.wh_store.specs.Faithful.{RestsFaithfully};
-ghost use Rattle.wh_store.specs.Reads.{ReadsOnlyIn, WhenStored};
+ghost use Rattle.wh_sql.specs.Answers.{ReadsOnlyIn, WhenStored};
 ghost use Rattle.wh_store.specs.Scan.{rows_left, HandsOut};
 ghost use Rattle.wh_admission.specs.Checked.{stored_in};
 ghost use Rattle.wh_checking.specs.Compared.{IsNext, IsEnd, AreRowsOrNot};
@@ -15,6 +15,7 @@ use crate::alike::are_alike;
 use sqlite::Alter;
 use std::alloc::{AllocError, Global};
 use wh_policy::Format;
+use wh_sql::is_in;
 use wh_store::{Cursor, PagedTable, ReadFault, Tables, next_row};
 
 /// The next row of the second warehouse.
@@ -116,7 +117,7 @@ pub(crate) fn holds_the_same<T: PagedTable, S: Alter, M: Alter>(
         → RestsFaithfully M.Store (Some t) expected.old.conn → IfOk result (AreRowsOrNot T.StoredTable.layout (get (T.StoredTable.rows t)) ((stored_in format stored).rows T.KeyedTable.name))) }
     ensures damaged { WhenStored S.Store tables.old tables.new (λ stored. IfErr result (IsOfDamage T.StoredTable.layout T.KeyedTable.name ((stored_in format stored).rows T.KeyedTable.name))) }
 {
-    if !T::is_in(format) {
+    if !is_in(T::table(), format) {
         return Ok(true);
     }
     has_the_same_rows::<T, S, M>(tables, alloc, format, expected)

@@ -9,7 +9,7 @@ ghost use Rattle.wh_rows.specs.Raw.{HasDamage};
 ghost use Rattle.wh_rows.specs.Rows as row;
 ghost use Rattle.wh_rows.specs.declared.table.Table.TheVariants.{Meta};
 ghost use Rattle.wh_sql.specs.Reads.{IsOfDamage, IsServed, Spares};
-ghost use Rattle.wh_store.specs.Reads.{state_of, ReadsOnlyIn, SparesIn, WhenStored};
+ghost use Rattle.wh_sql.specs.Answers.{state_of, ReadsOnlyIn, SparesIn, WhenStored};
 ghost use Rattle.wh_admission.specs.Checked.{stored_in};
 ghost use Rattle.wh_checking.specs.Compared.{AreRowsOrNot};
 ghost use Rattle.wh_checking.specs.Meta.{AreLimitsSaid, made_saying, made_in};
@@ -22,7 +22,7 @@ use std::alloc::{AllocError, Global};
 use wh_day::Value;
 use wh_policy::Format;
 use wh_rows::{Cause, Limits, MetaRow, tables};
-use wh_store::{ReadFault, Tables, open_fresh};
+use wh_store::{ReadFault, Tables, find_limits, for_init, open_fresh};
 
 /// The row of meta that says a format.
 fn format_row(alloc: Global, format: Format) -> Result<MetaRow, AllocError>
@@ -60,7 +60,7 @@ fn made_tables(
 {
     let row = format_row(alloc, format)?;
     let connection = open_fresh(alloc)?;
-    let Ok(mut tables) = Tables::for_init(connection) else {
+    let Ok(mut tables) = for_init(connection) else {
         return Err(AllocError);
     };
     match commit_tables(&mut tables, alloc, limits, &row) {
@@ -110,7 +110,7 @@ pub(crate) fn limits_said<S: Alter>(
     ensures damaged { WhenStored S.Store tables.old tables.new (λ stored. IfErr result (IsOfDamage row.meta Meta (stored.rows Meta))) }
     ensures good { IfOk result (λ said. IfSome said (λ limits. are_limits limits ≡ true)) }
 {
-    match tables.limits(alloc) {
+    match find_limits(tables, alloc) {
         Ok(limits) => match holds_limits(tables, alloc, format, limits) {
             Ok(true) => Ok(Some(limits)),
             Ok(false) => Ok(None),

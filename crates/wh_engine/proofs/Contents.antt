@@ -18,7 +18,7 @@ use Rattle.wh_batch.specs.declared.kind.CommandKind.{CommandKind}
 use Rattle.wh_batch.specs.declared.kind.CommandKind.TheVariants.{Batch, Migration, Upgrade}
 use Rattle.wh_batch.proofs.GoodLemmas.{bind_ok}
 use Rattle.wh_history.specs.Accepted.{Accepted, Content, Governs, Describes, Sells, Upgrades, Withdraws, governed, placeholders_by}
-use Rattle.wh_store.specs.declared.tables.Tables.{Tables}
+use Rattle.wh_sql.specs.declared.at_rest.Tables.{Tables}
 use Rattle.wh_plan.specs.Edits.{AreEdits, Edits}
 use Rattle.wh_plan.proofs.SaleBatches.SalePremises.{members_counted}
 use Rattle.wh_admission.specs.Admission.{accepted_as, content_of, judged_policy, judged_records, judged_sales, judged_voids, of_batch, of_file, policy_brought}

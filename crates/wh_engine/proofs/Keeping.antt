@@ -1,8 +1,8 @@
 -- What two calls keep, one after the other.
 use Rattle.sqlite_trees.specs.declared.store.Store.{Ghosts}
-use Rattle.wh_store.specs.declared.tables.Tables.{Tables}
+use Rattle.wh_sql.specs.declared.at_rest.Tables.{Tables}
 use Rattle.std.specs.Prelude.{⊤}
-use Rattle.wh_store.specs.Reads.{Spares, state_of}
+use Rattle.wh_sql.specs.Answers.{Spares, state_of}
 use Rattle.wh_engine.specs.Scanned.{Keeps}
 use Rattle.wh_sql.proofs.Sparing.{then_as_it_was}
 

@@ -8,7 +8,7 @@ use Rattle.wh_history.specs.Tables.{Limits, no_card_row}
 use Rattle.wh_history.specs.declared.rows.DimRow.{DimRow}
 use Rattle.wh_rows.specs.declared.rows.CommandRow.{CommandRow}
 use Rattle.wh_rows.specs.declared.rows.ProfileRow.{ProfileRow}
-use Rattle.wh_store.specs.Meta.{made_with}
+use Rattle.wh_sql.specs.Making.{made_with}
 use Rattle.wh_model.specs.Defined.{AreOf}
 use Rattle.wh_plan.specs.FirstRows.{IsGoodPolicy, making_row, first_profiles, calendar_rows, with_first_rows, MayBeFirst}
 use Rattle.wh_model.specs.Sound.{init_of}

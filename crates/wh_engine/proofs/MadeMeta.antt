@@ -11,7 +11,7 @@ use Rattle.wh_policy.specs.declared.format.Format.TheVariants.{One}
 use Rattle.wh_history.specs.Tables.{Limits}
 use Rattle.wh_model.specs.Defined.{meta_at}
 use Rattle.wh_rows.specs.declared.rows.MetaRow.{MetaRow}
-use Rattle.wh_store.specs.Meta.{made_with}
+use Rattle.wh_sql.specs.Making.{made_with}
 
 abbrev Text : Type 0
 Text = List ℕ

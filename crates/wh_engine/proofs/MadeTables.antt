@@ -18,7 +18,7 @@ use Rattle.wh_rows.specs.Tables.{Tables}
 use Rattle.wh_rows.specs.declared.key.MemberKey.{MemberKey}
 use Rattle.wh_rows.specs.declared.key.ChangeKey.{ChangeKey}
 use Rattle.wh_rows.specs.declared.rows.ProfileRow.{ProfileRow}
-use Rattle.wh_store.specs.Meta.{made_with}
+use Rattle.wh_sql.specs.Making.{made_with}
 use Rattle.wh_model.specs.Defined.{command_at, member_at, change_at, profile_at, AreOf}
 use Rattle.wh_plan.specs.FirstRows.{making_row, profile_of, first_profiles, calendar_rows, with_first_rows}
 use Rattle.wh_model.specs.Sound.{init_of}

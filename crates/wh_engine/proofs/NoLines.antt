@@ -26,7 +26,7 @@ use Rattle.wh_rows.proofs.Orders.{line_cmp_total, line_cmp-IsAntisymmetric}
 use Rattle.wh_rows.proofs.Places as places
 use Rattle.wh_sql.specs.declared.fault.ReadFault.{ReadFault}
 use Rattle.wh_sql.specs.declared.fault.ReadFault.TheVariants.{Memory, Damaged, Store}
-use Rattle.wh_store.specs.Reads.{ReadsOnly}
+use Rattle.wh_sql.specs.Answers.{ReadsOnly}
 use Rattle.wh_admission.specs.Admission.{first_line_there}
 use Rattle.wh_admission.proofs.SameLines.{none_first}
 use Rattle.wh_model.specs.Sound.{same_line}

@@ -12,7 +12,7 @@ use Rattle.wh_rows.specs.Firsts.{last_one}
 use Rattle.wh_rows.specs.Raw.{Stored, AreAsked}
 use Rattle.wh_rows.specs.declared.table.Table.TheVariants as tables
 use Rattle.wh_rows.specs.declared.rows.CommandRow.{CommandRow}
-use Rattle.wh_store.specs.Reads.{ReadsOnly, Spares, IsOfAskedDamage, SparesStore as RefusesNothing}
+use Rattle.wh_sql.specs.Answers.{ReadsOnly, Spares, IsOfAskedDamage, SparesStore as RefusesNothing}
 use Rattle.wh_sql.specs.declared.fault.ReadFault.{ReadFault}
 use Rattle.wh_sql.specs.declared.fault.ReadFault.TheVariants as reading
 use Rattle.wh_store.specs.Opening.{SparesStore, unread}

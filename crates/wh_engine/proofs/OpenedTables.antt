@@ -22,7 +22,7 @@ use Rattle.wh_rows.specs.declared.rows.MetaRow.{MetaRow}
 use Rattle.wh_store.specs.Meta.{meta_number, number_in, format_of as format_told, limits_in}
 use Rattle.wh_store.specs.Opening.{SparesStore, IsTaken, IsRefusedWith, unread}
 use Rattle.wh_rows.specs.declared.table.Table.{Table}
-use Rattle.wh_store.specs.Reads.{SparesRows, SparesStore as RefusesNothing}
+use Rattle.wh_sql.specs.Answers.{SparesRows, SparesStore as RefusesNothing}
 use Rattle.wh_sql.specs.declared.fault.ReadFault.{ReadFault}
 use Rattle.wh_sql.specs.declared.fault.ReadFault.TheVariants as reading
 use Rattle.wh_store.specs.declared.fault.OpenFault.{OpenFault}

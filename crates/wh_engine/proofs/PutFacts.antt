@@ -10,9 +10,9 @@ use Rattle.wh_rows.specs.Rows as row
 use Rattle.wh_rows.specs.Steps.{with_row, with_rows, after_all}
 use Rattle.wh_rows.specs.Tables.{Tables}
 use Rattle.wh_rows.proofs.Places as places
-use Rattle.wh_store.specs.Edits.{IsValid}
-use Rattle.wh_store.proofs.Looping as looping
-use Rattle.wh_store.proofs.Looping.{IsOnTheWay, in_parts}
+use Rattle.wh_sql.specs.Edits.{IsValid}
+use Rattle.wh_sql.proofs.Looping as looping
+use Rattle.wh_sql.proofs.Looping.{IsOnTheWay, in_parts}
 use Rattle.wh_plan.specs.Edits.{with_fact_edit}
 use Rattle.wh_plan.specs.Writable.{IsValidFactEdit}
 use Rattle.wh_plan.specs.declared.edits.FactEdit.{FactEdit}

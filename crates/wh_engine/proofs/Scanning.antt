@@ -12,8 +12,8 @@ use Rattle.wh_rows.specs.Holds.{Layout}
 use Rattle.wh_rows.specs.Tables.{Tables}
 use Rattle.wh_rows.specs.Raw.{Stored}
 use Rattle.wh_rows.specs.declared.table.Table.{Table}
-use Rattle.wh_store.specs.Reads.{SparesRows, SparesStore, NamesDamage, IsOfAskedDamage, state_of, ReadsOnly, Spares}
-use Rattle.wh_store.specs.declared.tables.Tables.{Tables as HeldTables}
+use Rattle.wh_sql.specs.Answers.{SparesRows, SparesStore, NamesDamage, IsOfAskedDamage, state_of, ReadsOnly, Spares}
+use Rattle.wh_sql.specs.declared.at_rest.Tables.{Tables as HeldTables}
 use Rattle.wh_sql.specs.declared.fault.ReadFault.{ReadFault}
 use Rattle.wh_sql.specs.declared.fault.ReadFault.TheVariants as reading
 use Rattle.wh_engine.specs.Answered.{IsReady}

@@ -7,10 +7,10 @@ use Rattle.wh_policy.specs.declared.format.Format.{Format}
 use Rattle.wh_rows.specs.Holds.{Layout}
 use Rattle.wh_rows.specs.Tables.{Tables as TypedTables}
 use Rattle.wh_rows.specs.declared.table.Table.{Table}
-use Rattle.wh_store.specs.Reads.{SaysInFormat, SaysAsStoredIn}
+use Rattle.wh_sql.specs.Answers.{SaysInFormat, SaysAsStoredIn}
 use Rattle.wh_store.specs.Scan.{rows_left, HandsOut, HandsOutOf, IsOver, AreValid}
 use Rattle.wh_store.specs.declared.scan.Cursor.{Cursor}
-use Rattle.wh_store.specs.declared.tables.Tables.{Tables}
+use Rattle.wh_sql.specs.declared.at_rest.Tables.{Tables}
 use Rattle.wh_engine.specs.Faults.{NamesTable}
 use Rattle.wh_engine.specs.Scanned.{WhenStored}
 use Rattle.wh_engine.specs.declared.fault.Fault.{Fault}

@@ -6,7 +6,7 @@ use Rattle.wh_policy.specs.declared.format.Format.{Format}
 use Rattle.wh_rows.specs.Facts.{facts_in, facts_table}
 use Rattle.wh_rows.specs.declared.linked_sale.LinkedSale.{LinkedSale}
 use Rattle.wh_sql.specs.LinkedTally.{HasCountedLinks, HasCountedStoredLinks}
-use Rattle.wh_store.specs.declared.tables.Tables.{Tables}
+use Rattle.wh_sql.specs.declared.at_rest.Tables.{Tables}
 use Rattle.wh_engine.specs.Faults.{NamesTable}
 use Rattle.wh_engine.specs.Scanned.{WhenAtRest, WhenStored}
 use Rattle.wh_engine.specs.declared.fault.Fault.{Fault}

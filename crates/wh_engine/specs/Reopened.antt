@@ -11,7 +11,7 @@ use Rattle.wh_history.specs.Tables.{Limits}
 use Rattle.wh_rows.specs.Raw.{Stored, RestsOn, LeavesStored}
 use Rattle.wh_store.specs.InFiles.{AreStoredIn, AreUnopened}
 use Rattle.wh_store.specs.Opening.{SparesStore}
-use Rattle.wh_store.specs.Reads.{state_of}
+use Rattle.wh_sql.specs.Answers.{state_of}
 use Rattle.wh_admission.specs.Admission.{AreAdmitted, accepted_after_all}
 use Rattle.wh_engine.specs.Answered.{AreTreesOf, IsReady}
 use Rattle.wh_engine.specs.Delivered.{AreAnswers}

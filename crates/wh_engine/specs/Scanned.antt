@@ -8,9 +8,9 @@ use Rattle.wh_history.specs.Tables.{Limits}
 use Rattle.wh_rows.specs.Raw.{Stored}
 use Rattle.wh_rows.specs.Tables.{Tables as TypedTables}
 use Rattle.wh_sql.specs.declared.fault.ReadFault.{ReadFault}
-use Rattle.wh_store.specs.Reads.{IsAsItWas, ReadsOnly, Spares, SaysAtRest, SaysAsStored, is_second_taken, state_of}
-pub use Rattle.wh_store.specs.Reads.{ReadsOnlyIn, SparesIn, WhenAtRest, WhenStored}
-use Rattle.wh_store.specs.declared.tables.Tables.{Tables}
+use Rattle.wh_sql.specs.Answers.{IsAsItWas, ReadsOnly, Spares, SaysAtRest, SaysAsStored, is_second_taken, state_of}
+pub use Rattle.wh_sql.specs.Answers.{ReadsOnlyIn, SparesIn, WhenAtRest, WhenStored}
+use Rattle.wh_sql.specs.declared.at_rest.Tables.{Tables}
 use Rattle.wh_model.specs.Defined.{AreOf}
 use Rattle.wh_model.specs.Sound.{IsAccepted}
 pub use Rattle.wh_plan.specs.Reads.{WhenOfCommands}

@@ -5,8 +5,8 @@ use Rattle.sqlite.specs.State.{HasCleanDisk}
 use Rattle.wh_history.specs.Accepted.{Accepted}
 use Rattle.wh_rows.specs.AtRest.{IsAtRest}
 use Rattle.wh_rows.specs.Tables.{Tables as TypedTables}
-use Rattle.wh_store.specs.Reads.{state_of}
-use Rattle.wh_store.specs.declared.tables.Tables.{Tables}
+use Rattle.wh_sql.specs.Answers.{state_of}
+use Rattle.wh_sql.specs.declared.at_rest.Tables.{Tables}
 use Rattle.wh_engine.specs.Decided.{IsHeld}
 use Rattle.wh_engine.specs.declared.session.Session.{Session}
 

@@ -7,7 +7,7 @@ use Rattle.wh_rows.specs.Facts.{facts_in, facts_table}
 use Rattle.wh_rows.specs.declared.keyed_sale.FactColumn.{FactColumn}
 use Rattle.wh_rows.specs.declared.keyed_sale.KeyedSale.{KeyedSale}
 use Rattle.wh_sql.specs.Tally.{HasCounted, HasCountedStored}
-use Rattle.wh_store.specs.declared.tables.Tables.{Tables}
+use Rattle.wh_sql.specs.declared.at_rest.Tables.{Tables}
 use Rattle.wh_engine.specs.Faults.{NamesTable}
 use Rattle.wh_engine.specs.Scanned.{WhenAtRest, WhenStored}
 use Rattle.wh_engine.specs.declared.fault.Fault.{Fault}

@@ -10,9 +10,9 @@ use Rattle.wh_rows.specs.Facts.{facts_in, with_facts_in}
 use Rattle.wh_rows.specs.Steps.{after_all}
 use Rattle.wh_rows.specs.Tables.{Tables}
 use Rattle.wh_rows.specs.declared.cause.Cause.{Cause}
-use Rattle.wh_store.specs.Reads.{state_of}
-use Rattle.wh_store.specs.Writes.{WritesOnly, Makes}
-use Rattle.wh_store.specs.declared.writing.Writing.{Writing}
+use Rattle.wh_sql.specs.Answers.{state_of}
+use Rattle.wh_sql.specs.Writes.{WritesOnly, Makes}
+use Rattle.wh_sql.specs.declared.writing.Writing.{Writing}
 use Rattle.wh_plan.specs.Edits.{Edits, with_fact_edit, with_commands, with_dimensions, with_facts}
 use Rattle.wh_plan.specs.Writable.{IsValidFactEdit}
 use Rattle.wh_plan.specs.declared.edits.FactEdit.{FactEdit}

@@ -7,7 +7,7 @@ ghost use Rattle.wh_policy.specs.Policy.{policy_attributes};
 ghost use Rattle.wh_records.specs.Carried.{carried_between, carried_of};
 ghost use Rattle.wh_records.specs.Filled.{IsFilled};
 ghost use Rattle.wh_records.specs.Parts.{IsPartAt};
-ghost use Rattle.wh_store.specs.Reads.{ReadsOnlyIn};
+ghost use Rattle.wh_sql.specs.Answers.{ReadsOnlyIn};
 ghost use Rattle.wh_engine.specs.Carried.{IsSourceOf};
 ghost use Rattle.wh_engine.specs.Scanned.{EngineReads, IsServing, IsWanting, Reads, WhenAtRest, WhenOfCommands, WhenReady};
 

@@ -7,7 +7,7 @@ ghost use Rattle.wh_engine.specs.Decided.{IsDecided, IsDecidedNew, IsRepeat, Pla
 ghost use Rattle.wh_batch.specs.declared.kind.CommandKind.TheVariants.{Upgrade};
 ghost use Rattle.wh_engine.specs.Scanned.{Reads, ReadsOnlyIn, WhenStored};
 ghost use Rattle.wh_engine.specs.Serving.{Works};
-ghost use Rattle.wh_store.specs.Reads.{is_second_taken, state_of};
+ghost use Rattle.wh_sql.specs.Answers.{is_second_taken, state_of};
 
 use crate::admission::number_for;
 use crate::fault::Fault;

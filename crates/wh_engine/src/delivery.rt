@@ -3,7 +3,7 @@
 ghost use Rattle.std.specs.Prelude.{◌≡◌, false, Some};
 ghost use Rattle.wh_engine.specs.Delivered.{answer_or_stop, is_of_the_store, AcceptNothing, AreAsMany, BlamesStored, EachUntilAccepted, IsDelivered, IsDeliveryNoted, IsDeliveryWritten, IsNoRefusal};
 ghost use Rattle.sqlite.specs.State.{HasCleanDisk};
-ghost use Rattle.wh_store.specs.Reads.{is_second_taken, state_of};
+ghost use Rattle.wh_sql.specs.Answers.{is_second_taken, state_of};
 ghost use Rattle.wh_engine.specs.Answered.{IsAgain};
 ghost use Rattle.wh_engine.specs.Faults.{TellsTaken};
 ghost use Rattle.wh_engine.specs.Scanned.{Keeps, Shuts, WhenReady, WhenStored};

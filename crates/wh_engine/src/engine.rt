@@ -4,7 +4,7 @@ ghost use Rattle.std.specs.Prelude.{◌≡◌, true, false, Err};
 ghost use Rattle.wh_engine.specs.Answered.{IsAgain, IsAnswered, IsPerformed, IsWritten, IsGoverned, IsFormatted, IsNotAccepted, IsNoted, KeepsNothing};
 ghost use Rattle.sqlite.specs.State.{HasCleanDisk};
 ghost use Rattle.wh_batch.specs.declared.kind.CommandKind.TheVariants.{Upgrade};
-ghost use Rattle.wh_store.specs.Reads.{is_second_taken, state_of};
+ghost use Rattle.wh_sql.specs.Answers.{is_second_taken, state_of};
 ghost use Rattle.wh_engine.specs.Faults.{BlamesDamage, IsWorkedOut, TellsTaken, stops};
 ghost use Rattle.wh_engine.specs.Scanned.{Keeps, Shuts, WhenReady, WhenReadyOn, WhenStored};
 

@@ -4,7 +4,7 @@ ghost use Rattle.std.specs.Prelude.{◌≡◌, None, Some, [], ◌∷◌, IfOk, 
 ghost use Rattle.sqlite.specs.State.{HasCleanDisk};
 ghost use Rattle.wh_rows.specs.AtRest.{IsWriting, Leaves};
 ghost use Rattle.wh_rows.specs.Tables.{Tables as TypedTables};
-ghost use Rattle.wh_store.specs.Reads.{state_of};
+ghost use Rattle.wh_sql.specs.Answers.{state_of};
 ghost use Rattle.wh_engine.specs.Scanned.{WasClean};
 ghost use Rattle.wh_engine.specs.Writing.{WritesIn, MakesIn};
 ghost use Rattle.wh_model.specs.Defined.{AreOf};

@@ -1,6 +1,6 @@
 //! Laws of makings, of accepted lists and of deliveries. They speak of the definitions alone and do nothing.
 
-ghost use Rattle.wh_store.specs.Reads.{state_of};
+ghost use Rattle.wh_sql.specs.Answers.{state_of};
 ghost use Rattle.wh_plan.specs.FirstRows.{PoliciesAreGood};
 ghost use Rattle.wh_admission.specs.Admission.{AcceptedListsStaySound, AdmittedListsAreSound, ContentsAreRead};
 ghost use Rattle.wh_engine.specs.Nights.{DeliveriesJoin, DeliveryIsANight, RedeliveryEndsTheSame, ReopeningFindsABeginning};

@@ -5,7 +5,7 @@ ghost use Rattle.sqlite.specs.Held.{state};
 ghost use Rattle.sqlite.specs.State.{HasCleanDisk};
 ghost use Rattle.wh_policy.specs.Policy.{read_policy};
 ghost use Rattle.wh_rows.specs.AtRest.{IsAtRest};
-ghost use Rattle.wh_store.specs.Reads.{Spares, has_second, has_tables, is_any_taken, state_of, SaysAtRest, SaysAsStored};
+ghost use Rattle.wh_sql.specs.Answers.{Spares, has_second, has_tables, is_any_taken, state_of, SaysAtRest, SaysAsStored};
 ghost use Rattle.wh_store.specs.Opening.{IsServed, SparesStore};
 ghost use Rattle.wh_policy.specs.declared.format.Format.TheVariants.{Two};
 ghost use Rattle.wh_policy.specs.Formats.{is_two};
@@ -28,7 +28,7 @@ use thiserror::Error;
 use wh_day::ParseError;
 use wh_policy::{Format, Policy, PolicyFault};
 use wh_rows::{Cause, CommandRow, Limits, Table, tables};
-use wh_store::{LastPolicy, NotFree, OpenFault, Tables};
+use wh_store::{LastPolicy, NotFree, OpenFault, Tables, find_limits, for_init, open};
 
 /// Why no warehouse was made.
 #[derive(Clone, Copy, Debug, PartialEq, Eq, Error)]
@@ -105,7 +105,7 @@ fn session_of<S: Alter>(
     ensures fresh { IfOk result (λ session. session.must_reopen ≡ false) }
     ensures format { IfOk result (λ session. session.format ≡ format) }
 {
-    let limits = tables.limits(alloc)?;
+    let limits = find_limits(tables, alloc)?;
     match policy_in(tables, alloc) {
         Ok(policy) => Ok(Session {
             limits,
@@ -143,7 +143,7 @@ impl<S: Alter> Engine<S> {
             Err(ParseError::Memory) => return Err((InitFault::Memory, conn)),
             Err(ParseError::Fault(fault)) => return Err((InitFault::Policy(fault), conn)),
         };
-        let mut tables = match Tables::for_init(conn) {
+        let mut tables = match for_init(conn) {
             Ok(tables) => tables,
             Err((NotFree::NotEmpty, conn)) => return Err((InitFault::NotEmpty, conn)),
             Err((NotFree::Store(cause), conn)) => return Err((InitFault::Store(cause), conn)),
@@ -189,7 +189,7 @@ impl<S: Alter> Engine<S> {
         // Without the tables of format 2 and their columns it is of format 1, whatever meta says.
         ensures missing_second { has_second (state S.Store conn).now.schema ≡ false → IfOk result (λ engine. engine.session.format ≡ Format.One) }
     {
-        let (mut tables, format) = match Tables::open(alloc, conn, Format::Two) {
+        let (mut tables, format) = match open(alloc, conn, Format::Two) {
             Ok(opened) => opened,
             Err((fault, conn)) => return Err((fault, conn)),
         };

@@ -2,7 +2,7 @@
 
 ghost use Rattle.std.specs.Prelude.{IfOk};
 ghost use Rattle.wh_engine.specs.Answered.{IsForeseen, IsForetold, IsPlannedAgain};
-ghost use Rattle.wh_store.specs.Reads.{is_second_taken, state_of};
+ghost use Rattle.wh_sql.specs.Answers.{is_second_taken, state_of};
 ghost use Rattle.wh_engine.specs.Faults.{TellsTaken};
 ghost use Rattle.wh_engine.specs.Scanned.{EngineReads, Reads, WhenReady, WhenReadyOn, WhenStored};
 

@@ -8,7 +8,7 @@ ghost use Rattle.wh_engine.specs.Scanned.{EngineReads, Reads, ReadsOnlyIn, WhenO
 ghost use Rattle.wh_engine.specs.Serving.{Works};
 ghost use Rattle.wh_plan.specs.Reading.{HaveDistinctIds, command_with};
 ghost use Rattle.wh_rows.specs.Types.{is_key};
-ghost use Rattle.wh_store.specs.Reads.{is_second_taken, state_of};
+ghost use Rattle.wh_sql.specs.Answers.{is_second_taken, state_of};
 
 use crate::decision::{Decision, decide_new};
 use crate::engine::Engine;

@@ -7,7 +7,7 @@ ghost use Rattle.wh_policy.specs.declared.format.Format.TheVariants.{One};
 ghost use Rattle.wh_history.specs.declared.plan.Edit.TheVariants.{Put};
 ghost use Rattle.wh_rows.specs.AtRest.{IsAtRest, IsWriting, Leaves};
 ghost use Rattle.wh_rows.specs.Tables.{Tables as TypedTables};
-ghost use Rattle.wh_store.specs.Reads.{state_of};
+ghost use Rattle.wh_sql.specs.Answers.{state_of};
 ghost use Rattle.wh_engine.specs.Scanned.{WasClean, WhenAtRest};
 ghost use Rattle.wh_engine.specs.Writing.{WritesIn, MakesIn, AreValidFactEdits, with_one_fact, with_fact_edits, with_rows_edited, LeavesEither};
 ghost use Rattle.wh_plan.specs.Edits.{with_format, with_commands, with_dimensions, with_first_facts, with_facts, with_all_edits, count_commands, count_dimensions, count_facts, edit_count};

@@ -9,7 +9,7 @@ ghost use Rattle.wh_plan.specs.Reading.{HaveNoEmptyValue};
 ghost use Rattle.wh_plan.specs.Reads.{WhenOfCommands};
 ghost use Rattle.wh_migration.specs.Migrated.{all_members, AreDimensionMembers, AreWarehouseMembers};
 ghost use Rattle.wh_model.specs.Sound.{IsAccepted};
-ghost use Rattle.wh_store.specs.Reads.{ReadsOnlyIn};
+ghost use Rattle.wh_sql.specs.Answers.{ReadsOnlyIn};
 
 use sqlite::Alter;
 use std::alloc::{AllocError, Global};

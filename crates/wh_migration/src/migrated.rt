@@ -19,7 +19,7 @@ ghost use Rattle.wh_plan.specs.Edits.{IsFactPlan};
 ghost use Rattle.wh_plan.specs.Reads.{Tells, WhenOfCommands};
 ghost use Rattle.wh_migration.specs.Migrated.{all_rows, keys_anew, keys_given, moved_anew, showing, AreWarehouseMembers, ArePlannedAnew, AreAllShown, AreShown, AreDimensionMembers, IsMigrated};
 ghost use Rattle.wh_model.specs.Sound.{IsAccepted};
-ghost use Rattle.wh_store.specs.Reads.{state_of, ReadsOnlyIn, WhenAtRest};
+ghost use Rattle.wh_sql.specs.Answers.{state_of, ReadsOnlyIn, WhenAtRest};
 ghost use Rattle.wh_store.specs.Scan.{rows_left, HandsOut};
 
 use crate::all_members::{DimensionMembers, WarehouseMembers};

@@ -12,7 +12,7 @@ ghost use Rattle.wh_plan.specs.FactEdits.{edits_in};
 ghost use Rattle.wh_migration.specs.Migrated.{IsShownAnew};
 ghost use Rattle.wh_plan.specs.Reads.{WhenOfCommands};
 ghost use Rattle.wh_model.specs.Sound.{IsAccepted};
-ghost use Rattle.wh_store.specs.Reads.{ReadsOnlyIn};
+ghost use Rattle.wh_sql.specs.Answers.{ReadsOnlyIn};
 
 use crate::all_members::{WarehouseMembers, read_dimensions};
 use crate::calendar_plan::calendar_edits;

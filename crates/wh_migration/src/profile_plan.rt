@@ -8,7 +8,7 @@ ghost use Rattle.wh_history.specs.Accepted.{Accepted, described};
 ghost use Rattle.wh_history.specs.Known.{all_numbered};
 ghost use Rattle.wh_history.specs.Laws.{governs};
 ghost use Rattle.wh_history.specs.Profiles.{combinations_of};
-ghost use Rattle.wh_store.specs.Reads.{state_of, ReadsOnlyIn};
+ghost use Rattle.wh_sql.specs.Answers.{state_of, ReadsOnlyIn};
 ghost use Rattle.wh_migration.specs.Migration.{stored_by, profiles_shown, edits_of_profiles, IsRenumbered};
 ghost use Rattle.wh_plan.specs.Profiles.{with_combinations};
 ghost use Rattle.wh_plan.specs.Reading.{HaveNoEmptyValue};

@@ -8,7 +8,7 @@ ghost use Rattle.wh_model.specs.Sound.{IsAccepted};
 ghost use Rattle.wh_plan.specs.Edits.{AreEdits};
 ghost use Rattle.wh_plan.specs.Reads.{WhenOfCommands};
 ghost use Rattle.wh_policy.specs.declared.format.Format.TheVariants.{One};
-ghost use Rattle.wh_store.specs.Reads.{ReadsOnlyIn};
+ghost use Rattle.wh_sql.specs.Answers.{ReadsOnlyIn};
 
 use sqlite::Alter;
 use std::alloc::{AllocError, Global};

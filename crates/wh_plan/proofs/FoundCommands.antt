@@ -14,7 +14,7 @@ use Rattle.wh_history.specs.Accepted.{Accepted, records_by, placeholders_by}
 use Rattle.wh_history.specs.Tables.{Limits, command_row, CommandRow as Told}
 use Rattle.wh_rows.specs.declared.rows.CommandRow.{CommandRow}
 use Rattle.wh_rows.specs.Tables.{Tables}
-use Rattle.wh_store.specs.Reads.{same_text}
+use Rattle.wh_sql.specs.Answers.{same_text}
 use Rattle.wh_model.specs.Defined.{AreOf, command_at}
 use Rattle.wh_plan.specs.Reading.{HaveDistinctIds, number_by_id, command_with}
 use Rattle.wh_model.proofs.Listed.{passes_at, values-numbered, len-values, length_numbered}

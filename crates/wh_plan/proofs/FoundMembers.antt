@@ -23,7 +23,7 @@ use Rattle.wh_rows.specs.Rows.{member_cmp}
 use Rattle.wh_rows.specs.Tables.{Tables}
 use Rattle.wh_rows.specs.Firsts.{part}
 use Rattle.wh_rows.proofs.Orders.{dim_once, member_cmp_total, member_cmp-IsAntisymmetric}
-use Rattle.wh_store.specs.Reads.{same_text}
+use Rattle.wh_sql.specs.Answers.{same_text}
 use Rattle.wh_model.specs.Defined.{AreOf, member_at}
 use Rattle.wh_model.proofs.Listed.{filter-values, passes_at, ascends_numbered, all_numbered, among_numbered, last_numbered, number_rises}
 use Rattle.wh_model.proofs.FoundPlaces.{same_text_is, text_itself, same_number_is, number_itself, at_place_there, place_given, place_at}

@@ -23,7 +23,7 @@ use Rattle.wh_history.proofs.Places.{at_place-place}
 use Rattle.wh_rows.specs.Firsts.{part}
 use Rattle.wh_rows.specs.Tables.{Tables}
 use Rattle.wh_rows.specs.declared.rows.ProfileRow.{ProfileRow}
-use Rattle.wh_store.specs.Reads.{same_text, same_slots}
+use Rattle.wh_sql.specs.Answers.{same_text, same_slots}
 use Rattle.wh_model.specs.Defined.{AreOf, profile_at}
 use Rattle.wh_plan.specs.Profiles.{number_kept}
 use Rattle.wh_model.proofs.FoundPlaces.{same_text_is, text_itself, at_place_there, place_at}

@@ -20,7 +20,7 @@ use Rattle.wh_history.proofs.Untouched.{no_anchor}
 use Rattle.wh_rows.specs.declared.rows.MemberRow.{MemberRow}
 use Rattle.wh_rows.specs.Tables.{Tables}
 use Rattle.wh_rows.specs.Firsts.{part}
-use Rattle.wh_store.specs.Reads.{same_text}
+use Rattle.wh_sql.specs.Answers.{same_text}
 use Rattle.wh_sql.proofs.Reading.{last_is}
 use Rattle.wh_history.specs.Tables.{Limits}
 use Rattle.wh_model.specs.Defined.{AreOf, member_at}

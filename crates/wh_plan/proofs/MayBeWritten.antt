@@ -42,7 +42,7 @@ use Rattle.wh_model.specs.Defined.{meta_at, command_at, member_at, change_at, pr
 use Rattle.wh_plan.specs.Laws.{CommandsMayBeWritten}
 use Rattle.wh_plan.specs.Edits.{Edits, AreEdits, NeedsFact, rows_of_dimension, edited_line}
 use Rattle.wh_model.specs.Sound.{IsGoodRecord, IsAccepted}
-use Rattle.wh_store.specs.Edits.{IsValid, Puts}
+use Rattle.wh_sql.specs.Edits.{IsValid, Puts}
 use Rattle.wh_plan.specs.Writable.{MayBeWritten, IsValidFactEdit}
 use Rattle.wh_plan.specs.declared.edits.FactEdit.{FactEdit}
 use Rattle.wh_plan.specs.declared.edits.FactEdit.TheVariants.{Row, Rekey}

@@ -8,7 +8,7 @@ use Rattle.std.proofs.lemmas.List.{drop_all}
 use Rattle.std.proofs.lemmas.List.Elements.{filter-append}
 use Rattle.wh_history.proofs.Basics.{or_none}
 use Rattle.wh_history.proofs.Once.{IsOnce}
-use Rattle.wh_store.proofs.Looping.{next_is}
+use Rattle.wh_sql.proofs.Looping.{next_is}
 
 -- ---- one or none
 

@@ -25,7 +25,7 @@ use Rattle.wh_plan.specs.BatchRows.{AreFacts, AreRekeyed}
 use Rattle.wh_plan.specs.MovedFacts.{facts_between, moved_of_touched, pair_of}
 use Rattle.wh_plan.specs.OnePass.{AreApart, IsAskedFor, Moving, can_move, earlier, first_moving, is_within, moved_by, moved_fact, moved_of_found, moves_of_fact, moves_on, moving_of, on_day, owner_in}
 use Rattle.wh_plan.specs.declared.records.touched.TouchedMember.{TouchedMember}
-use Rattle.wh_store.proofs.Looping.{next_is}
+use Rattle.wh_sql.proofs.Looping.{next_is}
 use Rattle.wh_plan.proofs.Lines.{all_permuted, find_permuted, once_permuted}
 use Rattle.wh_plan.proofs.MovedLists.{flat_none, moves_of_some}
 

@@ -11,7 +11,7 @@ use Rattle.wh_history.specs.declared.plan.Edit.{Edit}
 use Rattle.wh_history.specs.declared.plan.Edit.TheVariants.{Put, Remove}
 use Rattle.wh_history.proofs.Basics.{or_none, some_is}
 use Rattle.wh_rows.specs.Holds.{Layout}
-use Rattle.wh_store.specs.Edits.{Puts, with_edit}
+use Rattle.wh_sql.specs.Edits.{Puts, with_edit}
 use Rattle.wh_plan.specs.BatchRows.{numbers_after}
 use Rattle.wh_plan.specs.Edits.{with_edits, IsTablePlan}
 use Rattle.wh_model.proofs.Growing.{AmongKeys, Grows, among_mapped, among_range}

@@ -26,7 +26,7 @@ use Rattle.wh_rows.specs.Holds.{Layout}
 use Rattle.wh_rows.specs.Rekey.{rekeyed}
 use Rattle.wh_rows.specs.Rows as row
 use Rattle.wh_rows.specs.Tables.{Tables}
-use Rattle.wh_store.specs.Edits.{with_edit}
+use Rattle.wh_sql.specs.Edits.{with_edit}
 use Rattle.wh_model.specs.Defined.{meta_at, command_at, member_at, change_at, profile_at, calendar_at, fact_in, void_at}
 use Rattle.wh_rows.specs.Steps.{after_all}
 use Rattle.wh_plan.specs.declared.edits.FactEdit.{FactEdit}

@@ -15,7 +15,7 @@ use Rattle.wh_rows.specs.Rows as row
 use Rattle.wh_rows.specs.Tables.{Tables}
 use Rattle.wh_rows.specs.declared.rows.CommandRow.{CommandRow}
 use Rattle.wh_rows.specs.declared.rows.ProfileRow.{ProfileRow}
-use Rattle.wh_store.specs.Edits.{IsValid}
+use Rattle.wh_sql.specs.Edits.{IsValid}
 use Rattle.wh_model.specs.Defined.{day_at}
 use Rattle.wh_rows.specs.Steps.{with_row, with_rows}
 use Rattle.wh_plan.specs.BatchRows.{numbers_after}

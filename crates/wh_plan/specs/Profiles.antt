@@ -14,7 +14,7 @@ use Rattle.wh_history.specs.declared.member.Member.{Member}
 use Rattle.wh_history.specs.declared.profiles.NumberedProfile.{NumberedProfile}
 use Rattle.wh_rows.specs.declared.rows.ProfileRow.{ProfileRow}
 use Rattle.wh_rows.specs.Rows as row
-use Rattle.wh_store.specs.Reads.{same_slots}
+use Rattle.wh_sql.specs.Answers.{same_slots}
 use Rattle.wh_model.specs.Defined.{profile_at}
 use Rattle.wh_plan.specs.BatchRows.{numbers_after}
 use Rattle.wh_plan.specs.declared.profiles.KnownProfiles.{KnownProfiles}

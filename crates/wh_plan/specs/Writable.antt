@@ -8,7 +8,7 @@ use Rattle.wh_rows.specs.Facts.{fact_layout}
 use Rattle.wh_rows.specs.Holds.{Layout}
 use Rattle.wh_rows.specs.Rekey.{are_keys}
 use Rattle.wh_rows.specs.Rows as row
-use Rattle.wh_store.specs.Edits.{IsValid, Puts}
+use Rattle.wh_sql.specs.Edits.{IsValid, Puts}
 use Rattle.wh_plan.specs.Edits.{Edits}
 use Rattle.wh_plan.specs.declared.edits.FactEdit.{FactEdit}
 use Rattle.wh_plan.specs.declared.edits.FactEdit.TheVariants.{Row, Rekey}

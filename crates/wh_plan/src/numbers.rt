@@ -3,7 +3,7 @@
 ghost use Rattle.std.specs.Prelude.{◌≡◌, ◌≤◌, length, IfOk};
 ghost use Rattle.wh_history.specs.Accepted.{anchors, members};
 ghost use Rattle.wh_history.specs.Keys.{greatest_number};
-ghost use Rattle.wh_store.specs.Reads.{ReadsOnlyIn};
+ghost use Rattle.wh_sql.specs.Answers.{ReadsOnlyIn};
 ghost use Rattle.wh_plan.specs.Reads.{WhenOfCommands};
 
 use crate::reading::last_member;

@@ -10,7 +10,7 @@ ghost use Rattle.wh_history.specs.Keys.{greatest_number};
 ghost use Rattle.wh_history.specs.Known.{number_in, numbered_from, KnowsEnough};
 ghost use Rattle.wh_history.specs.Slots.{are_same};
 ghost use Rattle.wh_plan.specs.Profiles.{with_combination, with_combinations, told_of, said_of, said_by, number_kept, learned, is_none, unknown, row_of_profile, IsLearned};
-ghost use Rattle.wh_store.specs.Reads.{state_of, ReadsOnlyIn};
+ghost use Rattle.wh_sql.specs.Answers.{state_of, ReadsOnlyIn};
 ghost use Rattle.wh_plan.specs.Reads.{Tells, WhenOfCommands};
 ghost use Rattle.wh_model.specs.Sound.{AreTypes, IsAccepted};
 

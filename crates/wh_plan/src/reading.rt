@@ -11,7 +11,7 @@ ghost use Rattle.wh_rows.specs.declared.table.Table.TheVariants.{Command};
 ghost use Rattle.wh_rows.specs.Questions.{has_id};
 ghost use Rattle.wh_rows.specs.Raw.{IsLastOf};
 ghost use Rattle.wh_rows.specs.Rows as row;
-ghost use Rattle.wh_store.specs.Reads.{ReadsOnlyIn, WhenStored};
+ghost use Rattle.wh_sql.specs.Answers.{ReadsOnlyIn, WhenStored};
 ghost use Rattle.wh_plan.specs.Reads.{Tells, WhenOfCommands};
 
 use sqlite::Alter;

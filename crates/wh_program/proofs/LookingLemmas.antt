@@ -5,8 +5,8 @@ use Rattle.sqlite.specs.State.{State, HasCleanDisk}
 use Rattle.sqlite.specs.Tree.{Trees}
 use Rattle.wh_rows.specs.AtRest.{Has, IsAtRest, Leaves}
 use Rattle.wh_rows.specs.Raw.{LeavesStored}
-use Rattle.wh_store.specs.Reads.{IsAsItWas, Spares, state_of}
-use Rattle.wh_store.specs.declared.tables.Tables.{Tables}
+use Rattle.wh_sql.specs.Answers.{IsAsItWas, Spares, state_of}
+use Rattle.wh_sql.specs.declared.at_rest.Tables.{Tables}
 use Rattle.wh_sql.proofs.Sparing.{spares_itself, then_as_it_was, tables_left, tables_again, stored_left, stored_again}
 use Rattle.wh_engine.specs.Answered as engine
 use Rattle.wh_engine.specs.Faults.{IsServed, stops}

@@ -1,7 +1,7 @@
 -- What a word that looks leaves of a warehouse that is open.
 use Rattle.std.specs.Prelude.{◌≡◌, false}
 use Rattle.sqlite_trees.specs.declared.store.Store.{Ghosts}
-use Rattle.wh_store.specs.Reads.{Spares, state_of}
+use Rattle.wh_sql.specs.Answers.{Spares, state_of}
 use Rattle.wh_engine.specs.declared.engine.Engine.{Engine}
 
 -- The database is as it was, whoever wrote it and whatever its schema, and a crash leaves only what it could have left before. Where the database refused a

@@ -8,7 +8,7 @@ ghost use Rattle.wh_history.specs.Tables.{Limits};
 ghost use Rattle.wh_engine.specs.Answered.{IsReady};
 ghost use Rattle.wh_engine.specs.Scanned.{ReadsThrough};
 ghost use Rattle.wh_engine.specs.declared.fault.Fault.TheVariants as faults;
-ghost use Rattle.wh_store.specs.Reads.{state_of, WhenAtRest, WhenStored};
+ghost use Rattle.wh_sql.specs.Answers.{state_of, WhenAtRest, WhenStored};
 ghost use Rattle.wh_report.specs.Output.{GoesOut, IsWorkedOut, IsOfTables, IsOfReport, of_warehouse};
 ghost use Rattle.wh_report.specs.Reported.{column_asked};
 ghost use Rattle.wh_report.specs.declared.output.ReportFault.TheVariants as report;
@@ -28,9 +28,9 @@ use std::io::Write;
 use wh_engine::{Engine, Fault};
 use wh_policy::{Format, Policy};
 use wh_report::{
-    LabelColumn, ReportFault, column_of, facts_table, labels_of, reading_of, subject_in,
-    write_worked,
+    LabelColumn, ReportFault, column_of, labels_of, reading_of, subject_in, write_worked,
 };
+use wh_sql::facts_table;
 
 /// Why a sale isn't counted, as a fault of the query. A row that a sale names for a label isn't there; or there are more
 /// sales than can be counted.

@@ -2,7 +2,7 @@
 use Rattle.std.proofs.Common.{◌≡◌, ◌≢◌, true≢false, Bool, false, ◌||◌, Result, Ok, Err, IfErr, IsTrue, refl, sym, ap, ◌∙◌}
 use Rattle.sqlite_trees.specs.declared.store.Store.{Ghosts}
 use Rattle.sqlite.specs.State.{State}
-use Rattle.wh_store.specs.Reads.{state_of}
+use Rattle.wh_sql.specs.Answers.{state_of}
 use Rattle.wh_engine.specs.Faults.{stops}
 use Rattle.wh_engine.specs.Scanned.{noting, EngineReads, IsServing, ReadsThrough, WhenReady}
 use Rattle.wh_engine.specs.declared.engine.Engine.{Engine}

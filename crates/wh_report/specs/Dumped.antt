@@ -9,7 +9,7 @@ use Rattle.wh_rows.specs.Parts.{IsArranged}
 use Rattle.wh_rows.specs.Raw.{Stored}
 use Rattle.wh_rows.specs.declared.table.Table.{Table}
 use Rattle.wh_sql.specs.Described.{Described, described}
-use Rattle.wh_store.specs.Reads.{SaysInFormat, SaysAsStoredIn, state_of}
+use Rattle.wh_sql.specs.Answers.{SaysInFormat, SaysAsStoredIn, state_of}
 use Rattle.wh_engine.specs.Faults.{NamesTable}
 use Rattle.wh_engine.specs.Scanned.{ReadsThrough}
 use Rattle.wh_engine.specs.declared.engine.Engine.{Engine}

@@ -4,7 +4,7 @@ ghost use Rattle.std.specs.Prelude.{◌≡◌, List, None, IsTrue, IfSome, IfOk}
 ghost use Rattle.std.specs.FinMap.{values};
 ghost use Rattle.wh_policy.specs.declared.attribute.Dim.TheVariants.{Customer};
 ghost use Rattle.wh_engine.specs.Scanned.{EngineReads, IsServing, ReadsThrough, WhenReady};
-ghost use Rattle.wh_store.specs.Reads.{state_of, WhenAtRest, WhenStored};
+ghost use Rattle.wh_sql.specs.Answers.{state_of, WhenAtRest, WhenStored};
 ghost use Rattle.wh_rows.specs.Keys.{bind_number};
 ghost use Rattle.wh_store.specs.Scan.{HandsOut, HandsOutOf, AreValid};
 ghost use Rattle.wh_day.specs.declared.calendar.DateRow.{DateRow};

@@ -3,7 +3,7 @@
 ghost use Rattle.std.specs.Prelude.{◌≡◌, ℕ, List, Err, false, IsTrue, IfErr};
 ghost use Rattle.std.specs.FinMap.{values};
 ghost use Rattle.wh_engine.specs.Scanned.{ReadsThrough};
-ghost use Rattle.wh_store.specs.Reads.{SaysInFormat, SaysAsStoredIn, state_of};
+ghost use Rattle.wh_sql.specs.Answers.{SaysInFormat, SaysAsStoredIn, state_of};
 ghost use Rattle.wh_report.specs.Dump.{header_line, row_line, table_lines, lines_of_table};
 ghost use Rattle.wh_report.specs.Dumped.{IsDumpOf, DumpsStored};
 ghost use Rattle.wh_report.specs.Output.{IsOutInLines, IsOfDump, IsOfNoTable, of_warehouse};

@@ -5,7 +5,7 @@ ghost use Rattle.std.specs.FinMap.{values};
 ghost use Rattle.wh_engine.specs.Scanned.{ReadsThrough};
 ghost use Rattle.wh_rows.specs.Facts.{facts_in, facts_table};
 ghost use Rattle.wh_rows.specs.declared.keyed_sale.KeyedSale.{KeyedSale};
-ghost use Rattle.wh_store.specs.Reads.{state_of, WhenAtRest, WhenStored};
+ghost use Rattle.wh_sql.specs.Answers.{state_of, WhenAtRest, WhenStored};
 ghost use Rattle.wh_report.specs.Labels.{labels_get};
 ghost use Rattle.wh_report.specs.Output.{IsOfTables, of_warehouse};
 ghost use Rattle.wh_report.specs.Reported.{IsSummed, IsSummedOf, uncounted};
@@ -22,18 +22,9 @@ use sqlite::Alter;
 use std::alloc::Global;
 use wh_engine::{Engine, Fault};
 use wh_policy::Format;
-use wh_rows::{KeyedSale, Table};
+use wh_rows::KeyedSale;
+use wh_sql::facts_table;
 use wh_store::FactAggregate;
-
-/// The table of the facts of a format.
-pub fn facts_table(format: Format) -> Table
-    ensures { result ≡ facts_table format }
-{
-    match format {
-        Format::One => Table::Fact,
-        Format::Two => Table::Fact2,
-    }
-}
 
 /// Why a sale isn't counted, as a fault of the report. A row that a sale names for its label isn't there; or there are more
 /// sales than can be counted.

@@ -25,7 +25,6 @@ pub use column_labels::labels_of;
 pub use csv_buffer::CsvBuffer;
 pub use dumps::{dump, write_table};
 pub use fact::FactFault;
-pub use fact_sums::facts_table;
 pub use labels::Labels;
 pub use output::{ReportFault, WriteFailed, write_whole};
 pub use request::{Request, RequestFault, has_reading, read_range};

@@ -6,7 +6,7 @@ ghost use Rattle.wh_history.specs.Accepted.{Accepted};
 ghost use Rattle.wh_history.specs.Tables.{Limits};
 ghost use Rattle.wh_engine.specs.Answered.{IsReady};
 ghost use Rattle.wh_engine.specs.Scanned.{ReadsThrough};
-ghost use Rattle.wh_store.specs.Reads.{state_of, WhenAtRest, WhenStored};
+ghost use Rattle.wh_sql.specs.Answers.{state_of, WhenAtRest, WhenStored};
 ghost use Rattle.wh_report.specs.Joined.{column_of};
 ghost use Rattle.wh_report.specs.Output.{GoesOut, IsWorkedOut, IsOfTables, IsOfReport, of_warehouse};
 ghost use Rattle.wh_report.specs.Reported.{ReportsTables, ReportsStored, Reports, column_asked};

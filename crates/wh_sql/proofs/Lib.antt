@@ -1,5 +1,5 @@
 pub mod Inside
-pub mod Writing
+pub mod Putting
 pub mod Reading
 mod Plain
 mod Giving
@@ -12,3 +12,8 @@ mod Creating
 pub mod Worked
 pub mod BoundRows
 pub mod Picking
+mod Transactions
+pub mod Looping
+mod InParts
+mod FormatFacts
+mod Refusals

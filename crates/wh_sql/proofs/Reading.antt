@@ -1,5 +1,5 @@
 -- What a reading of one table gives, and what it leaves.
-use Rattle.std.proofs.Common.{◌≡◌, ◌↔◌, ◌<◌, ◌≤◌, ℕ, List, [], ◌∷◌, ◌++◌, map, filter, length, Bool, slice_get, Option, None, Some, unwrap_or, option_map, Result, Ok, Err, IsSome, IfOk, IfErr, IsTrue, true, false, inl, inr, refl, sym, ap, subst, ◌∙◌, arith, length-append}
+use Rattle.std.proofs.Common.{◌≡◌, ◌≢◌, ◌↔◌, ◌<◌, ◌≤◌, ℕ, List, [], ◌∷◌, ◌++◌, map, filter, length, Bool, slice_get, Option, None, Some, unwrap_or, option_map, Result, Ok, Err, IsSome, IfOk, IfErr, IsTrue, true, false, inl, refl, sym, ap, subst, ◌∙◌, arith, length-append}
 use Rattle.std.specs.List.{list_all}
 use Rattle.std.specs.Option.{option_to_list}
 use Rattle.std.specs.FinMap.{FinMap, values, get, len}
@@ -21,7 +21,7 @@ use Rattle.wh_rows.specs.Schema.{schema_in}
 use Rattle.wh_rows.specs.Holds.{Layout}
 use Rattle.wh_rows.specs.Place.{IsPlaced}
 use Rattle.wh_rows.specs.Tables.{Tables, Stores}
-use Rattle.wh_rows.specs.AtRest.{Has, IsAtRest, Leaves}
+use Rattle.wh_rows.specs.AtRest.{IsAtRest}
 use Rattle.wh_rows.specs.Meaning.{Means, ReadsSome, CountsAll}
 use Rattle.wh_rows.proofs.Means.{means_or, in_second, never_shows}
 use Rattle.wh_sql.proofs.Plain.{plain_returns_nothing}
@@ -30,7 +30,7 @@ use Rattle.wh_sql.proofs.Sparing.{unchanged_spares, spares_itself}
 use Rattle.std.specs.List.Sorted.{IsPermutation}
 use Rattle.std.proofs.lemmas.List.Sorted.{IsPermutation-refl, IsPermutation-sym, IsPermutation-trans}
 use Rattle.sqlite_trees.proofs.ListLemmas.{IsPermutation-filter}
-use Rattle.wh_rows.specs.Raw.{Stored, IsStored, HasDamage, HasDamageIn, RestsOn, LeavesStored, ReadsStored, ReadsFrontStored, ReadsPartStored, ReadsGreatestStored, IsGreatestAnchor, AreRows, AreAsked, IsFrontOf, table_of, rows_in, rows_shown}
+use Rattle.wh_rows.specs.Raw.{Stored, IsStored, HasDamage, HasDamageIn, RestsOn, ReadsStored, ReadsFrontStored, ReadsPartStored, ReadsGreatestStored, IsGreatestAnchor, AreRows, AreAsked, IsFrontOf, table_of, rows_in, rows_shown}
 use Rattle.sqlite_sql.specs.Aggregate.{count}
 use Rattle.sqlite_rules.specs.Lists.{Has as IsAmong}
 use Rattle.wh_rows.proofs.Raw.{has_again, no_damage, damage_again, shows_stored, shows_in_order, shows_front_again, ShowsGreatest, shows_greatest, anchor_shown, anchor_damaged}
@@ -231,15 +231,27 @@ names_nothing stored causes.Disk = tt
 names_nothing stored causes.Size = tt
 names_nothing stored causes.Interrupted = tt
 
-not_asked : {A : Type 0} (s : State) (cause : Cause) → ReadsOnly {A = A} s s (Err (unasked cause))
+-- nothing was called, for a parameter wasn't made
+pub not_asked : {A : Type 0} (s : State) (cause : Cause) → ReadsOnly {A = A} s s (Err (unasked cause))
 not_asked s cause = record {
   spares = spares_itself;
   sound = λ clean t at. no_row cause;
   named = λ clean stored at. names_nothing stored cause;
 }
 
-pub nothing_asked : {A : Type 0} (s : State) (cause : Cause) (result : Result A ReadFault) → result ≡ Err (unasked cause) → ReadsOnly s s result
-nothing_asked s cause result is = subst (ReadsOnly s s) (sym is) (not_asked s cause)
+-- it tells of no damage
+pub unasked_harmless : {K V : Type 0} (front : Option Front) (layout : Layout K V) (table : Table) (stored : List Row) (cause : Cause) → IsOfAskedDamage front layout table stored (unasked cause)
+unasked_harmless front layout table stored causes.Memory = tt
+unasked_harmless front layout table stored causes.Disk = tt
+unasked_harmless front layout table stored causes.Size = tt
+unasked_harmless front layout table stored causes.Interrupted = tt
+
+-- where each parameter can be made, memory alone keeps one from being made
+pub unasked_shows : {K V : Type 0} (layout : Layout K V) (table : Table) (text : List ℕ) (params : Row) (old new : State) (cause : Cause) → (cause ≢ causes.Memory → ⊥) → FailsToShow layout table text params old new (unasked cause)
+unasked_shows layout table text params old new causes.Memory fits = tt
+unasked_shows layout table text params old new causes.Disk fits = absurd (fits (λ same. cc))
+unasked_shows layout table text params old new causes.Size fits = absurd (fits (λ same. cc))
+unasked_shows layout table text params old new causes.Interrupted fits = absurd (fits (λ same. cc))
 
 -- the same fault, of another answer
 pub said_again : {A B : Type 0} {old new : State} {fault : ReadFault} → ReadsOnly {A = A} old new (Err fault) → ReadsOnly {A = B} old new (Err fault)

@@ -1,7 +1,6 @@
 -- What a call that looks leaves of what was at rest.
-use Rattle.std.proofs.Common.{◌≡◌, ◌∙◌, Some, inl, inr, sym, subst, refl, arith}
+use Rattle.std.proofs.Common.{◌∙◌, Some, inl, inr, sym, subst, refl, arith}
 use Rattle.sqlite.specs.State.{State, HasCleanDisk, IsUnchanged, Survives}
-use Rattle.sqlite.specs.Tree.{Trees}
 use Rattle.wh_rows.specs.AtRest.{Has, IsAtRest, Leaves}
 use Rattle.wh_rows.specs.Raw.{Stored, IsStored, RestsOn, LeavesStored}
 use Rattle.wh_rows.specs.Tables.{Tables}

@@ -1,5 +1,11 @@
 pub mod Refused
 pub mod Reads
+pub mod Answers
+pub mod Writes
+pub mod Edits
+pub mod Beginning
+pub mod FactTexts
+pub mod Making
 pub mod Present
 pub mod Asked
 pub mod Page

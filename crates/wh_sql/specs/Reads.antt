@@ -13,10 +13,10 @@ use Rattle.wh_rows.specs.declared.cause.Cause.TheVariants as cause
 use Rattle.wh_rows.specs.declared.table.Table.{Table}
 use Rattle.wh_rows.specs.declared.table.Table.TheVariants.{Change}
 use Rattle.wh_rows.specs.Holds.{Layout}
-use Rattle.wh_rows.specs.Tables.{Tables, Stores}
+use Rattle.wh_rows.specs.Tables.{Tables}
 use Rattle.wh_rows.specs.AtRest.{IsAtRest}
 use Rattle.wh_rows.specs.Firsts.{Front}
-use Rattle.wh_rows.specs.Raw.{Stored, IsStored, HasDamage, HasAskedDamage, HasGreatestDamaged, HasDamageIn, RestsOn}
+use Rattle.wh_rows.specs.Raw.{Stored, HasDamage, HasAskedDamage, HasGreatestDamaged, HasDamageIn, RestsOn}
 use Rattle.wh_sql.specs.declared.fault.ReadFault.{ReadFault}
 use Rattle.wh_sql.specs.declared.fault.ReadFault.TheVariants.{Memory, Damaged, Store}
 use Rattle.wh_sql.specs.Refused.{IsCauseOfQuery}
@@ -78,13 +78,6 @@ pub record ReadsOnly {A : Type 0} (old new : State) (result : Result A ReadFault
   pub named : HasCleanDisk new → (stored : Stored) → RestsOn stored old → IfErr result (NamesDamage stored)
 
 -- ---- what it says
-
--- what is so of the tables that the database stored, and of whatever was stored
-abbrev pub SaysOfTables : State → State → (Tables → Type 0) → Type 0
-SaysOfTables old new fact = HasCleanDisk new → (t : Tables) → Stores old.now t → fact t
-
-abbrev pub SaysOfStored : State → State → (Stored → Type 0) → Type 0
-SaysOfStored old new fact = HasCleanDisk new → (stored : Stored) → IsStored stored old.now → fact stored
 
 -- the query, asked with these parameters, shows these rows, all of values of their types
 abbrev pub Shows : {K V : Type 0} → Layout K V → List ℕ → Row → State → State → List V → Type 0

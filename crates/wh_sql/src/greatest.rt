@@ -1,11 +1,10 @@
 //! Questions after the greatest key, and after the greatest anchor.
 
-ghost use Rattle.std.specs.Prelude.{◌≡◌, [], ◌∷◌, pos, map, filter, slice_get, Some, unwrap_or, option_map, IfOk, IfErr};
+ghost use Rattle.std.specs.Prelude.{◌≡◌, [], ◌∷◌, pos, map, filter, slice_get, Some, unwrap_or, option_map};
 ghost use Rattle.std.specs.Ordering.{eq_by_cmp, nat_cmp};
 ghost use Rattle.std.specs.FinMap.{values};
 ghost use Rattle.sqlite_value.specs.declared.value.Value.TheVariants.{Int as Number};
 ghost use Rattle.sqlite.specs.Held.{state};
-ghost use Rattle.sqlite.specs.State.{HasCleanDisk};
 ghost use Rattle.wh_rows.specs.declared.table.Table.TheVariants.{Change as OfChange};
 ghost use Rattle.wh_rows.specs.Types.{dim_number};
 ghost use Rattle.wh_rows.specs.Rows.{change};
@@ -13,14 +12,16 @@ ghost use Rattle.wh_rows.specs.Texts as texts;
 ghost use Rattle.wh_rows.specs.Firsts.{greatest as greatest_of};
 ghost use Rattle.wh_rows.specs.Questions.{is_record_of};
 ghost use Rattle.wh_rows.specs.Raw.{IsGreatestAnchor};
-ghost use Rattle.wh_sql.specs.Reads.{ReadsOnly, SaysOfTables, SaysOfStored, IsUndamaged, IsOfGreatestDamage, FailsToShow};
+ghost use Rattle.wh_sql.specs.Answers.{Answers};
+ghost use Rattle.wh_sql.specs.Reads.{IsOfGreatestDamage, FailsToShow};
 
+use crate::at_rest::Tables;
 use crate::fault::ReadFault;
 use crate::keys::dim_key;
 use crate::question::Question;
 use crate::read::rows_shown;
+use sqlite::Alter;
 use sqlite::types::ValueRef;
-use sqlite::{Alter, Connection};
 use std::alloc::Global;
 use wh_policy::Dim;
 use wh_rows::{Cause, ChangeRow, bound, tables};
@@ -102,24 +103,23 @@ impl Question<tables::Member> for GreatestOf {
     ghost reads_stored = { λ format q. greatest_stored format q.dim };
 }
 
-/// The greatest anchor of the dimension's records; 0 where it has none. It is no `Question`, whose rows are one list: records of a member and day share
-/// their anchor, and any of them may be shown. `Damaged`: the record that was shown is out of its type.
-pub fn greatest_anchor<S: Alter>(
-    alloc: Global,
-    conn: &mut Connection<S>,
-    dim: Dim,
-) -> Result<u64, ReadFault>
-    ensures reads { ReadsOnly (state S.Store conn.old) (state S.Store conn.new) result }
-    ensures anchor { SaysOfTables (state S.Store conn.old) (state S.Store conn.new) (λ t. IfOk result (λ anchor. anchor ≡ greatest_of (map (λ r. r.anchor) (filter (λ r. eq_by_cmp nat_cmp (dim_number dim) (dim_number r.dim)) (values t.change))))) }
-    ensures sound { SaysOfTables (state S.Store conn.old) (state S.Store conn.new) (λ _. IsUndamaged result) }
-    // The same of any stored rows: none of the dimension's has a greater anchor.
-    ensures stored { SaysOfStored (state S.Store conn.old) (state S.Store conn.new) (λ stored. IfOk result (IsGreatestAnchor (filter (is_record_of dim) (stored.rows OfChange)))) }
-    ensures damaged { SaysOfStored (state S.Store conn.old) (state S.Store conn.new) (λ stored. IfErr result (IsOfGreatestDamage (filter (is_record_of dim) (stored.rows OfChange)))) }
-    ensures refused { HasCleanDisk (state S.Store conn.new) → IfErr result (FailsToShow change OfChange texts.greatest_anchor (Number (pos (dim_number dim)) ∷ []) (state S.Store conn.old) (state S.Store conn.new)) }
-{
-    let text = "SELECT * FROM change WHERE dim = ?1 ORDER BY anchor DESC LIMIT 1";
-    let rows = rows_shown::<tables::Change, S>(alloc, conn, text, &[bound::dim(dim)])?;
-    Ok(first_anchor(&rows))
+impl<S: Alter> Tables<S> {
+    /// The greatest anchor among the accepted records of a dimension, 0 where there is none. It is no `Question`, whose rows are one list: records of a
+    /// member and day share their anchor, and any of them may be shown. `Damaged`: the record that was shown is out of its type.
+    pub fn greatest_anchor(&mut self, alloc: Global, dim: Dim) -> Result<u64, ReadFault>
+        ensures { Answers S.Store self.old.conn self.new.conn result (λ t anchor. anchor ≡ greatest_of (map (λ r. r.anchor) (filter (λ r. eq_by_cmp nat_cmp (dim_number dim) (dim_number r.dim)) (values t.change))))
+            (λ stored. IsGreatestAnchor (filter (is_record_of dim) (stored.rows OfChange))) (λ stored. IsOfGreatestDamage (filter (is_record_of dim) (stored.rows OfChange)))
+            (FailsToShow change OfChange texts.greatest_anchor (Number (pos (dim_number dim)) ∷ []) (state S.Store self.old.conn) (state S.Store self.new.conn)) }
+    {
+        let text = "SELECT * FROM change WHERE dim = ?1 ORDER BY anchor DESC LIMIT 1";
+        let rows = rows_shown::<tables::Change, S>(
+            alloc,
+            &mut self.conn,
+            text,
+            &[bound::dim(dim)],
+        )?;
+        Ok(first_anchor(&rows))
+    }
 }
 
 /// The anchor of the first of these rows; 0 where there is none.

@@ -1,19 +1,16 @@
 //! Writing sixteen rows of a table at once, inside a transaction.
 
-ghost use Rattle.std.specs.Prelude.{◌≡◌, ◌≢◌, ◌≤◌, ◌⊎◌, ◌++◌, false, if◌then◌else◌, map, length, Option, Some, Err, IsTrue, IfOk, IfErr};
-ghost use Rattle.std.specs.List.{AllByRecursion, list_all};
+ghost use Rattle.std.specs.Prelude.{◌≡◌, ◌≢◌, ◌≤◌, ◌⊎◌, ◌++◌, false, map, Err, IsTrue, IfOk, IfErr};
+ghost use Rattle.std.specs.List.{list_all};
 ghost use Rattle.sqlite.specs.Held.{state};
 ghost use Rattle.sqlite.specs.Order.{Row as Columns};
 ghost use Rattle.sqlite.specs.State.{HasCleanDisk, Survives, CommitsBy};
 ghost use Rattle.sqlite.specs.Values.{bound};
 ghost use Rattle.wh_rows.specs.declared.cause.Cause.TheVariants.{Memory, Disk, Size};
-ghost use Rattle.wh_rows.specs.Tables.{Tables};
-ghost use Rattle.wh_rows.specs.Inserting.{rows_at_once, bind_rows, is_broken_rule, BreaksRule};
-ghost use Rattle.wh_rows.specs.AtRest.{IsWriting, Leaves, IsCauseOf};
-ghost use Rattle.wh_rows.specs.Steps.{with_rows};
+ghost use Rattle.wh_rows.specs.Inserting.{rows_at_once, bind_rows, is_broken_rule};
+ghost use Rattle.wh_rows.specs.AtRest.{IsCauseOf};
 ghost use Rattle.wh_sql.specs.Batches.{HasRun, IsNotPut};
 
-use crate::batched_table::BatchedTable;
 use crate::keyed_table::KeyedTable;
 use sqlite::types::ValueRef;
 use sqlite::{Alter, Connection, ErrorCode};
@@ -44,7 +41,7 @@ fn append<'a>(values: &mut Vec<ValueRef<'a>>, row: Vec<ValueRef<'a>>) -> Result<
 }
 
 /// Rows as the parameters of a statement, one after the other.
-fn bind_rows<'a, T: KeyedTable>(
+pub(crate) fn bind_rows<'a, T: KeyedTable>(
     alloc: Global,
     rows: &[&'a T::Row],
 ) -> Result<Vec<ValueRef<'a>>, Cause>
@@ -61,7 +58,7 @@ fn bind_rows<'a, T: KeyedTable>(
 
 /// Runs a text that puts sixteen rows in, with the values of their columns. Where so many aren't meant, or a rule is broken, nothing changes, and
 /// the answer is false.
-fn insert_sixteen<S: Alter>(
+pub(crate) fn insert_sixteen<S: Alter>(
     conn: &mut Connection<S>,
     text: &str,
     count: usize,
@@ -96,32 +93,4 @@ fn insert_sixteen<S: Alter>(
             }
         }
     }
-}
-
-/// Puts rows in that aren't there yet, sixteen in one statement. Where there are not sixteen of them, or they break a rule of the schema, as where
-/// one of their keys is taken, also by another of them, nothing changes, and the answer is false. Outside a transaction it is refused, and so is a
-/// table that the format hasn't.
-pub fn insert_new<T: BatchedTable, S: Alter>(
-    alloc: Global,
-    conn: &mut Connection<S>,
-    rows: &[&T::Row],
-) -> Result<bool, Cause>
-    ensures clean { HasCleanDisk (state S.Store conn.new) → HasCleanDisk (state S.Store conn.old) }
-    ensures counts { (state S.Store conn.old).faults ≤ (state S.Store conn.new).faults }
-    ensures sixteen { IfOk result (λ done. IsTrue done → length rows.now ≡ rows_at_once) }
-    ensures put { HasCleanDisk (state S.Store conn.new) → (before : Option Tables) (made : Tables) → IsWriting before (Some made) (state S.Store conn.old)
-        → AllByRecursion (λ r. IsTrue (T.layout.is_valid r)) (map (λ r. r.now) rows.now)
-        → IfOk result (λ done. IsWriting before (Some (if done then T.with_rows (with_rows T.layout (map (λ r. r.now) rows.now) (T.rows made)) made else made)) (state S.Store conn.new)) }
-    ensures refused { HasCleanDisk (state S.Store conn.new) → IfOk result (λ done. done ≡ false → (length rows.now ≢ rows_at_once) ⊎ BreaksRule T.insert_means (bind_rows T.layout (map (λ r. r.now) rows.now)) (state S.Store conn.old) (state S.Store conn.new)) }
-    ensures left { HasCleanDisk (state S.Store conn.new) → (before : Option Tables) (made : Tables) → IsWriting before (Some made) (state S.Store conn.old) → Leaves before (state S.Store conn.new) }
-    ensures cause { HasCleanDisk (state S.Store conn.new) → IsTrue (state S.Store conn.old).in_transaction → AllByRecursion (λ r. IsTrue (T.layout.is_valid r)) (map (λ r. r.now) rows.now)
-        → IfErr result (λ cause. cause ≢ Memory → IsCauseOf T.insert_means (bind_rows T.layout (map (λ r. r.now) rows.now)) (state S.Store conn.old) (state S.Store conn.new) cause) }
-    ensures late { conn.old.in_transaction ≡ false → (result ≡ Err Disk) × (conn.new ≡ conn.old) }
-{
-    insert_sixteen(
-        conn,
-        T::insert_text(),
-        rows.len(),
-        bind_rows::<T>(alloc, rows),
-    )
 }

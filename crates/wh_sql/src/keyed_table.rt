@@ -14,6 +14,16 @@ use std::alloc::Global;
 use wh_policy::Format;
 use wh_rows::{Cause, StoredTable, Table};
 
+/// Whether a warehouse of the format has the table.
+pub fn is_in(table: Table, format: Format) -> bool
+    ensures { result ≡ is_there table format }
+{
+    match table {
+        Table::Fact2 | Table::Void => matches!(format, Format::Two),
+        _ => true,
+    }
+}
+
 /// The texts of a table's statements.
 #[derive(Drop)]
 pub struct Statements {
@@ -44,10 +54,6 @@ pub trait KeyedTable: StoredTable {
     /// Which table it is.
     fn table() -> Table
         ensures { result ≡ name };
-
-    /// Whether a warehouse of the format has the table.
-    fn is_in(format: Format) -> bool
-        ensures { result ≡ is_there name format };
 
     /// The texts of its statements.
     fn statements() -> Statements

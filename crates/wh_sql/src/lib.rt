@@ -1,12 +1,16 @@
-//! The statements of the warehouse.
+//! The tables of a warehouse over a connection: at rest, where they are asked, and in a transaction, where they are written.
 #![tactic(auto)]
 
+mod at_rest;
 mod batched_table;
 mod batches;
 mod dimension;
+mod edits_in_parts;
+mod fact_tables;
 mod facts;
 mod fault;
 mod greatest;
+mod init;
 mod insert;
 mod keyed_table;
 mod keys;
@@ -21,27 +25,28 @@ mod read;
 mod schema;
 mod tables;
 mod tally;
+mod transaction;
 mod visitor;
 mod write;
+mod writing;
 
+pub use at_rest::Tables;
 pub use batched_table::BatchedTable;
 pub use dimension::Dimension;
+pub use fact_tables::facts_table;
 pub use facts::Facts;
 pub use fault::ReadFault;
-pub use greatest::{Greatest, GreatestOf, greatest_anchor};
-pub use insert::{ROWS_AT_ONCE, insert_new};
-pub use keyed_table::{KeyedTable, Statements};
-pub use linked_tally::{LinkAggregate, tally_links};
+pub use greatest::{Greatest, GreatestOf};
+pub use insert::ROWS_AT_ONCE;
+pub use keyed_table::{KeyedTable, Statements, is_in};
+pub use linked_tally::LinkAggregate;
 pub use paged_table::{PagedTable, PartStatements};
 pub use part::Page;
 pub use parts::for_table;
-pub use picked::{SomeMembers, facts_of_members};
-pub use question::{Question, ask};
+pub use picked::SomeMembers;
+pub use question::Question;
 pub use questions::{CommandOf, LastPolicy, MemberOf, ProfileOf, RecordsOf, RowsOf};
-pub use read::{all, count, get};
-pub use schema::{
-    add_format2_tables, create_tables, has_second, has_tables, is_any_taken, is_second_taken,
-};
-pub use tally::{FactAggregate, tally_facts};
+pub use schema::{has_second, has_tables, is_any_taken};
+pub use tally::FactAggregate;
 pub use visitor::TableVisitor;
-pub use write::{clear_facts, put, rekey, remove};
+pub use writing::Writing;

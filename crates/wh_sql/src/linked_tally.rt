@@ -2,22 +2,20 @@
 
 ghost use Rattle.std.specs.Prelude.{◌≡◌, ◌⊎◌, ◌++◌, ◌∷◌, [], List, IfOk, IfErr};
 ghost use Rattle.std.specs.FinMap.{values};
-ghost use Rattle.sqlite.specs.Held.{state};
-ghost use Rattle.sqlite.specs.State.{HasCleanDisk};
 ghost use Rattle.wh_rows.specs.LinkedSales.{read_linked_sale};
-ghost use Rattle.wh_rows.specs.declared.cause.Cause.{Cause};
 ghost use Rattle.wh_rows.specs.declared.linked_sale.LinkedSale.{LinkedSale};
-ghost use Rattle.wh_sql.specs.Reads.{ReadsOnly, SaysOfTables, SaysOfStored, IsUndamaged, IsOfDamage};
-ghost use Rattle.wh_sql.specs.Refused.{IsCauseOfQuery};
+ghost use Rattle.wh_sql.specs.Answers.{TalliesRows};
 ghost use Rattle.wh_rows.specs.Facts.{facts_table, fact_layout, facts_in};
 ghost use Rattle.wh_sql.specs.LinkedTally.{linked_by, CountsLinked, ShowsNoLinks, HasCountedLinks, HasCountedStoredLinks};
-ghost use Rattle.wh_sql.specs.declared.fault.ReadFault.TheVariants.{Memory, Damaged, Store};
+ghost use Rattle.wh_sql.specs.declared.fault.ReadFault.TheVariants.{Memory, Damaged};
 
+use crate::at_rest::Tables;
+use crate::fact_tables::facts_table;
 use crate::fault::ReadFault;
 use sqlite::{Alter, Connection, Row};
 use wh_day::ParseError;
 use wh_policy::Format;
-use wh_rows::{Cause, LinkedSale, Table};
+use wh_rows::{Cause, LinkedSale};
 
 /// Counts sales one after the other by all of their keys, in whatever order they come. One that has failed keeps that to itself.
 pub trait LinkAggregate {
@@ -41,16 +39,6 @@ fn linked_by(format: Format) -> &'static str
     }
 }
 
-/// The table of the facts of a format.
-fn facts_table(format: Format) -> Table
-    ensures { result ≡ facts_table format }
-{
-    match format {
-        Format::One => Table::Fact,
-        Format::Two => Table::Fact2,
-    }
-}
-
 /// Counts the sale that a row of the facts of a format shows.
 fn count_row<C: LinkAggregate>(tally: &mut C, format: Format, row: &Row) -> Result<(), ReadFault>
     ensures counted { IfOk result (λ _. (sale : LinkedSale) × (row.now ≡ read_linked_sale sale) × CountsLinked C.counts tally.old tally.new sale) }
@@ -66,22 +54,14 @@ fn count_row<C: LinkAggregate>(tally: &mut C, format: Format, row: &Row) -> Resu
     }
 }
 
-/// Has a tally count each fact of a format by all of its keys, in whatever order they are stored. `Memory`: also where there are more
-/// facts than a `u64` counts. `Damaged`: a column that is read of a fact is out of its type. `Store`: also for facts of the second format in
-/// a warehouse of the first.
-pub fn tally_links<C: LinkAggregate, S: Alter>(
+/// Has a tally count each fact by all of its keys, as the database hands them out.
+fn each_link_tallied<C: LinkAggregate, S: Alter>(
     conn: &mut Connection<S>,
     format: Format,
     tally: &mut C,
 ) -> Result<(), ReadFault>
     requires { C.counts tally.old [] tally.old }
-    ensures reads { ReadsOnly (state S.Store conn.old) (state S.Store conn.new) result }
-    ensures counted { SaysOfTables (state S.Store conn.old) (state S.Store conn.new) (λ t. IfOk result (λ _. HasCountedLinks C.counts tally.old tally.new (values (facts_in format t)))) }
-    ensures sound { SaysOfTables (state S.Store conn.old) (state S.Store conn.new) (λ _. IsUndamaged result) }
-    // The same of any stored rows, by the columns that are read of them: each was counted, or one is damaged.
-    ensures stored { SaysOfStored (state S.Store conn.old) (state S.Store conn.new) (λ stored. IfOk result (λ _. HasCountedStoredLinks C.counts tally.old tally.new (stored.rows (facts_table format)))) }
-    ensures damaged { SaysOfStored (state S.Store conn.old) (state S.Store conn.new) (λ stored. IfErr result (IsOfDamage (fact_layout format) (facts_table format) (stored.rows (facts_table format)))) }
-    ensures refused { HasCleanDisk (state S.Store conn.new) → IfErr result (λ fault. (why : Cause) → fault ≡ Store why → IsCauseOfQuery (linked_by format) [] (state S.Store conn.old) (state S.Store conn.new) why) }
+    ensures { TalliesRows S.Store conn.old conn.new (facts_table format) (fact_layout format) (λ t. HasCountedLinks C.counts tally.old tally.new (values (facts_in format t))) (HasCountedStoredLinks C.counts tally.old tally.new) (linked_by format) result }
 {
     let mut rows = match conn.query(linked_by(format), &[]) {
         Ok(rows) => rows,
@@ -97,4 +77,20 @@ pub fn tally_links<C: LinkAggregate, S: Alter>(
         }
     }
     Err(ReadFault::Memory)
+}
+
+impl<S: Alter> Tables<S> {
+    /// Has a tally count each fact of a format by all of its keys, in whatever order they are stored. `Memory`: also where there are more
+    /// facts than a `u64` counts. `Damaged`: a column that is read of a fact is out of its type. `Store`: also for facts of the second format in
+    /// a warehouse of the first.
+    pub fn tally_links<C: LinkAggregate>(
+        &mut self,
+        format: Format,
+        tally: &mut C,
+    ) -> Result<(), ReadFault>
+        requires { C.counts tally.old [] tally.old }
+        ensures { TalliesRows S.Store self.old.conn self.new.conn (facts_table format) (fact_layout format) (λ t. HasCountedLinks C.counts tally.old tally.new (values (facts_in format t))) (HasCountedStoredLinks C.counts tally.old tally.new) (linked_by format) result }
+    {
+        each_link_tallied(&mut self.conn, format, tally)
+    }
 }

@@ -1,9 +1,7 @@
 //! The facts of some members, each with days of its own, out of all that are stored, in whatever order.
 
-ghost use Rattle.std.specs.Prelude.{◌≡◌, ℕ, Bool, List, filter, [], ◌∷◌, ◌++◌, pos, IfOk, IfErr};
+ghost use Rattle.std.specs.Prelude.{◌≡◌, ℕ, Bool, List, filter, [], ◌∷◌, ◌++◌, IfOk, IfErr};
 ghost use Rattle.std.specs.FinMap.{values};
-ghost use Rattle.std.specs.List.Sorted.{IsPermutation};
-ghost use Rattle.sqlite_value.specs.declared.value.Value.TheVariants.{Int};
 ghost use Rattle.sqlite.specs.Held.{state};
 ghost use Rattle.sqlite.specs.Order.{Row as Columns};
 ghost use Rattle.sqlite.specs.Values.{bound};
@@ -12,9 +10,9 @@ ghost use Rattle.wh_rows.specs.AtRest.{IsAtRest};
 ghost use Rattle.wh_rows.specs.Questions.{durable_column};
 ghost use Rattle.wh_rows.specs.Raw.{Stored, RestsOn};
 ghost use Rattle.wh_rows.specs.Tables.{Tables};
-ghost use Rattle.wh_rows.specs.Since.{is_of_members, is_sale_of, is_sold_of};
-ghost use Rattle.wh_sql.specs.Picked.{StandFor, ShowsSome, FailsToShowSome};
-ghost use Rattle.wh_sql.specs.Reads.{NeverReturns, ReadsOnly, NamesDamage, SaysOfTables, SaysOfStored, IsUndamaged, IsOfDamage, AreRead};
+ghost use Rattle.wh_rows.specs.Since.{is_of_members};
+ghost use Rattle.wh_sql.specs.Picked.{ShowsSome, FailsToShowSome, PicksSales};
+ghost use Rattle.wh_sql.specs.Reads.{NeverReturns, ReadsOnly, NamesDamage, IsUndamaged, AreRead};
 ghost use Rattle.wh_sql.specs.declared.fault.ReadFault.TheVariants.{Memory};
 
 use crate::facts::Facts;
@@ -115,22 +113,15 @@ pub(crate) fn rows_of_members<T: KeyedTable, M: SomeMembers, S: Alter>(
     Err(ReadFault::Memory)
 }
 
-/// The facts of some members of a dimension on their days, of which none is before `from`, in whatever order they are stored. `Damaged`: one of them is
-/// out of its type.
-pub fn facts_of_members<F: Facts, M: SomeMembers, S: Alter>(
+/// The facts of some members, out of the table of a format.
+pub(crate) fn facts_of_members<F: Facts, M: SomeMembers, S: Alter>(
     alloc: Global,
     conn: &mut Connection<S>,
     dim: Dim,
     members: &M,
     from: Day,
 ) -> Result<Vec<F::Row>, ReadFault>
-    ensures reads { ReadsOnly (state S.Store conn.old) (state S.Store conn.new) result }
-    ensures rows { SaysOfTables (state S.Store conn.old) (state S.Store conn.new) (λ t. IfOk result (λ rows. IsPermutation (filter (λ row. is_sold_of (M.among members.now) dim from (F.fact row)) (values (F.rows t))) rows.items)) }
-    ensures sound { SaysOfTables (state S.Store conn.old) (state S.Store conn.new) (λ _. IsUndamaged result) }
-    // The same of any stored rows: no other row keeps these from being read.
-    ensures stored { SaysOfStored (state S.Store conn.old) (state S.Store conn.new) (λ stored. IfOk result (λ rows. StandFor F.layout (filter (is_sale_of (M.among members.now) dim from) (stored.rows F.name)) rows.items)) }
-    ensures damaged { SaysOfStored (state S.Store conn.old) (state S.Store conn.new) (λ stored. IfErr result (IsOfDamage F.layout F.name (filter (is_sale_of (M.among members.now) dim from) (stored.rows F.name)))) }
-    ensures refused { HasCleanDisk (state S.Store conn.new) → IfErr result (FailsToShowSome F.layout F.name (is_of_members (M.among members.now) dim) F.since_means (Int (pos from) ∷ []) (state S.Store conn.old) (state S.Store conn.new)) }
+    ensures { PicksSales S.Store conn.old conn.new F.layout F.name (λ t. values (F.rows t)) F.fact (M.among members.now) dim from F.since_means result }
 {
     let values = day_key(alloc, &from)?;
     rows_of_members::<F, M, S>(alloc, conn, F::since_text(), &values, members, dim)

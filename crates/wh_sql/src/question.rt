@@ -1,26 +1,24 @@
 //! Questions about one table, each with the rows that answer it.
 
-ghost use Rattle.std.specs.Prelude.{◌≡◌, ◌≢◌, ℕ, Bool, List, filter, Err, Option, IfOk, IfErr};
-ghost use Rattle.std.specs.FinMap.{values};
-ghost use Rattle.sqlite.specs.Held.{state};
+ghost use Rattle.std.specs.Prelude.{◌≡◌, ◌≢◌, ℕ, Bool, List, Option, IfOk, IfErr};
 ghost use Rattle.sqlite.specs.Order.{Row as Columns};
 ghost use Rattle.sqlite.specs.Values.{bound};
-ghost use Rattle.sqlite.specs.State.{HasCleanDisk};
 ghost use Rattle.wh_rows.specs.declared.cause.Cause.TheVariants.{Memory, Size};
 ghost use Rattle.sqlite.specs.Listing.{understood};
 ghost use Rattle.wh_policy.specs.declared.format.Format.{Format};
 ghost use Rattle.wh_rows.specs.Names.{is_there};
 ghost use Rattle.wh_rows.specs.Schema.{schema_in};
 ghost use Rattle.wh_rows.specs.Meaning.{Means};
-ghost use Rattle.wh_rows.specs.Firsts.{Front, part, ReadsPart};
-ghost use Rattle.wh_rows.specs.Raw.{AreAsked, ReadsPartStored};
-ghost use Rattle.wh_sql.specs.Reads.{ReadsOnly, SaysOfTables, SaysOfStored, IsUndamaged, IsOfAskedDamage, Shows, FailsToShow};
+ghost use Rattle.wh_rows.specs.Firsts.{Front, ReadsPart};
+ghost use Rattle.wh_rows.specs.Raw.{ReadsPartStored};
+ghost use Rattle.wh_sql.specs.Answers.{AsksRows};
 
+use crate::at_rest::Tables;
 use crate::fault::ReadFault;
 use crate::keyed_table::KeyedTable;
 use crate::read::rows_shown;
+use sqlite::Alter;
 use sqlite::types::ValueRef;
-use sqlite::{Alter, Connection};
 use std::alloc::Global;
 use wh_rows::Cause;
 
@@ -56,22 +54,17 @@ pub trait Question<T: KeyedTable> {
     ghost reads_stored: { (format : Format) (question : Self) → Means (is_there T.name format) (ReadsPartStored (schema_in format) front T.layout (bind question) (stands question) (keep question) (means question)) (understood (schema_in format) (means question)) };
 }
 
-/// The rows that answer the question, in the order of their keys. `Damaged`: one of them is out of its type. `Store(Size)`: the question has a
-/// number that is greater than any that is stored.
-pub fn ask<T: KeyedTable, Q: Question<T>, S: Alter>(
-    alloc: Global,
-    conn: &mut Connection<S>,
-    question: &Q,
-) -> Result<Vec<T::Row>, ReadFault>
-    ensures reads { ReadsOnly (state S.Store conn.old) (state S.Store conn.new) result }
-    ensures rows { SaysOfTables (state S.Store conn.old) (state S.Store conn.new) (λ t. IfOk result (λ rows. rows.items ≡ part Q.front (filter (Q.keep question.now) (values (T.rows t))))) }
-    ensures sound { SaysOfTables (state S.Store conn.old) (state S.Store conn.new) (λ _. IsUndamaged result) }
-    // The same of any stored rows: no other row keeps these from being read.
-    ensures stored { SaysOfStored (state S.Store conn.old) (state S.Store conn.new) (λ stored. IfOk result (λ rows. AreAsked Q.front T.layout (filter (Q.stands question.now) (stored.rows T.name)) rows.items)) }
-    ensures damaged { SaysOfStored (state S.Store conn.old) (state S.Store conn.new) (λ stored. IfErr result (IsOfAskedDamage Q.front T.layout T.name (filter (Q.stands question.now) (stored.rows T.name)))) }
-    ensures shows { HasCleanDisk (state S.Store conn.new) → IfOk result (λ rows. Shows T.layout (Q.means question.now) (Q.bind question.now) (state S.Store conn.old) (state S.Store conn.new) rows.items) }
-    ensures refused { HasCleanDisk (state S.Store conn.new) → Q.can_be_asked question.now → IfErr result (FailsToShow T.layout T.name (Q.means question.now) (Q.bind question.now) (state S.Store conn.old) (state S.Store conn.new)) }
-{
-    let values = question.values(alloc)?;
-    rows_shown::<T, S>(alloc, conn, question.text(), &values)
+impl<S: Alter> Tables<S> {
+    /// The rows that answer a question about one table, in the order of their keys. `Damaged`: one of them is out of its type. `Store(Size)`: the
+    /// question has a number that is greater than any that is stored.
+    pub fn ask<T: KeyedTable, Q: Question<T>>(
+        &mut self,
+        alloc: Global,
+        question: &Q,
+    ) -> Result<Vec<T::Row>, ReadFault>
+        ensures { AsksRows S.Store self.old.conn self.new.conn T.name T.layout T.rows Q.front (Q.keep question.now) (Q.stands question.now) (Q.means question.now) (Q.bind question.now) (Q.can_be_asked question.now) result }
+    {
+        let values = question.values(alloc)?;
+        rows_shown::<T, S>(alloc, &mut self.conn, question.text(), &values)
+    }
 }

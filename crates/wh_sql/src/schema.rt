@@ -83,7 +83,7 @@ fn create_all<S: Alter>(conn: &mut Connection<S>, texts: &[&str]) -> Result<(), 
 }
 
 /// Makes the ten tables of format 1 and their indexes, inside a transaction on a database with no object. Outside a transaction the error is `Disk`.
-pub fn create_tables<S: Alter>(conn: &mut Connection<S>) -> Result<(), Cause>
+pub(crate) fn create_tables<S: Alter>(conn: &mut Connection<S>) -> Result<(), Cause>
     ensures clean { HasCleanDisk (state S.Store conn.new) → HasCleanDisk (state S.Store conn.old) }
     ensures counts { (state S.Store conn.old).faults ≤ (state S.Store conn.new).faults }
     ensures made { HasCleanDisk (state S.Store conn.new) → IsWriting None None (state S.Store conn.old) → OnOk result (IsWriting None (Some no_tables) (state S.Store conn.new)) }
@@ -95,7 +95,7 @@ pub fn create_tables<S: Alter>(conn: &mut Connection<S>) -> Result<(), Cause>
 }
 
 /// Makes the tables and indexes of the second format, inside a transaction over a warehouse of the first. Outside a transaction it is refused.
-pub fn add_format2_tables<S: Alter>(conn: &mut Connection<S>) -> Result<(), Cause>
+pub(crate) fn add_format2_tables<S: Alter>(conn: &mut Connection<S>) -> Result<(), Cause>
     ensures clean { HasCleanDisk (state S.Store conn.new) → HasCleanDisk (state S.Store conn.old) }
     ensures counts { (state S.Store conn.old).faults ≤ (state S.Store conn.new).faults }
     // The tables have the rows that they had; the new ones have none.
@@ -131,7 +131,7 @@ pub fn is_any_taken<S: Alter>(conn: &Connection<S>) -> bool
 }
 
 /// Whether one has the name of one of the two that the second format adds.
-pub fn is_second_taken<S: Alter>(conn: &Connection<S>) -> bool
+pub(crate) fn is_second_taken<S: Alter>(conn: &Connection<S>) -> bool
     ensures { result ≡ is_second_taken (state S.Store conn.now).now.schema }
 {
     is_one_taken(conn.schema(), &Table::ALL[FIRST..])

@@ -6,7 +6,7 @@ use sqlite::types::ValueRef;
 use std::alloc::Global;
 use wh_day::{DateRow, Day, Value};
 use wh_history::{DimRow, Fact};
-use wh_policy::{Dim, Format};
+use wh_policy::Dim;
 use wh_rows::{
     Cause, ChangeKey, ChangeRow, CommandRow, LineKey, MemberKey, MemberRow, MetaRow, ProfileRow,
     Table, VoidRow, bound, tables,
@@ -28,10 +28,6 @@ impl KeyedTable for tables::Meta {
 
     fn table() -> Table {
         Table::Meta
-    }
-
-    fn is_in(_format: Format) -> bool {
-        true
     }
 
     fn statements() -> Statements {
@@ -73,10 +69,6 @@ impl KeyedTable for tables::Command {
         Table::Command
     }
 
-    fn is_in(_format: Format) -> bool {
-        true
-    }
-
     fn statements() -> Statements {
         Statements {
             put: "INSERT INTO command VALUES (?1, ?2, ?3, ?4, ?5, ?6) ON CONFLICT (number) DO UPDATE SET id = excluded.id, kind = excluded.kind, bytes = excluded.bytes, records = excluded.records, placeholders = excluded.placeholders",
@@ -114,10 +106,6 @@ impl KeyedTable for tables::Member {
 
     fn table() -> Table {
         Table::Member
-    }
-
-    fn is_in(_format: Format) -> bool {
-        true
     }
 
     fn statements() -> Statements {
@@ -159,10 +147,6 @@ impl KeyedTable for tables::Change {
         Table::Change
     }
 
-    fn is_in(_format: Format) -> bool {
-        true
-    }
-
     fn statements() -> Statements {
         Statements {
             put: "INSERT INTO change VALUES (?1, ?2, ?3, ?4, ?5, ?6, ?7, ?8, ?9, ?10, ?11, ?12) ON CONFLICT (command, record) DO UPDATE SET dim = excluded.dim, durable = excluded.durable, day = excluded.day, anchor = excluded.anchor, v1 = excluded.v1, v2 = excluded.v2, v3 = excluded.v3, v4 = excluded.v4, v5 = excluded.v5, v6 = excluded.v6",
@@ -200,10 +184,6 @@ impl KeyedTable for tables::Product {
 
     fn table() -> Table {
         Table::Product
-    }
-
-    fn is_in(_format: Format) -> bool {
-        true
     }
 
     fn statements() -> Statements {
@@ -245,10 +225,6 @@ impl KeyedTable for tables::Store {
         Table::Store
     }
 
-    fn is_in(_format: Format) -> bool {
-        true
-    }
-
     fn statements() -> Statements {
         Statements {
             put: "INSERT INTO store VALUES (?1, ?2, ?3, ?4, ?5, ?6, ?7, ?8, ?9, ?10, ?11, ?12, ?13, ?14, ?15, ?16, ?17, ?18, ?19) ON CONFLICT (surrogate) DO UPDATE SET durable = excluded.durable, natural = excluded.natural, from_day = excluded.from_day, to_day = excluded.to_day, is_current = excluded.is_current, a1 = excluded.a1, a2 = excluded.a2, a3 = excluded.a3, a4 = excluded.a4, a5 = excluded.a5, a6 = excluded.a6, b1 = excluded.b1, b2 = excluded.b2, b3 = excluded.b3, b4 = excluded.b4, b5 = excluded.b5, b6 = excluded.b6, profile_now = excluded.profile_now",
@@ -286,10 +262,6 @@ impl KeyedTable for tables::Customer {
 
     fn table() -> Table {
         Table::Customer
-    }
-
-    fn is_in(_format: Format) -> bool {
-        true
     }
 
     fn statements() -> Statements {
@@ -331,10 +303,6 @@ impl KeyedTable for tables::Profile {
         Table::Profile
     }
 
-    fn is_in(_format: Format) -> bool {
-        true
-    }
-
     fn statements() -> Statements {
         Statements {
             put: "INSERT INTO profile VALUES (?1, ?2, ?3, ?4, ?5, ?6, ?7) ON CONFLICT (number) DO UPDATE SET v1 = excluded.v1, v2 = excluded.v2, v3 = excluded.v3, v4 = excluded.v4, v5 = excluded.v5, v6 = excluded.v6",
@@ -372,10 +340,6 @@ impl KeyedTable for tables::Calendar {
 
     fn table() -> Table {
         Table::Calendar
-    }
-
-    fn is_in(_format: Format) -> bool {
-        true
     }
 
     fn statements() -> Statements {
@@ -417,10 +381,6 @@ impl KeyedTable for tables::Fact {
         Table::Fact
     }
 
-    fn is_in(_format: Format) -> bool {
-        true
-    }
-
     fn statements() -> Statements {
         Statements {
             put: "INSERT INTO fact VALUES (?1, ?2, ?3, ?4, ?5, ?6, ?7, ?8, ?9, ?10, ?11, ?12, ?13) ON CONFLICT (ticket, line) DO UPDATE SET day = excluded.day, store_key = excluded.store_key, product_key = excluded.product_key, customer_key = excluded.customer_key, store_durable = excluded.store_durable, product_durable = excluded.product_durable, customer_durable = excluded.customer_durable, profile = excluded.profile, quantity = excluded.quantity, amount = excluded.amount, cost = excluded.cost",
@@ -460,10 +420,6 @@ impl KeyedTable for tables::Fact2 {
         Table::Fact2
     }
 
-    fn is_in(format: Format) -> bool {
-        matches!(format, Format::Two)
-    }
-
     fn statements() -> Statements {
         Statements {
             put: "INSERT INTO fact2 VALUES (?1, ?2, ?3, ?4, ?5, ?6, ?7, ?8, ?9, ?10, ?11, ?12, ?13, ?14) ON CONFLICT (ticket, line) DO UPDATE SET day = excluded.day, store_key = excluded.store_key, product_key = excluded.product_key, customer_key = excluded.customer_key, store_durable = excluded.store_durable, product_durable = excluded.product_durable, customer_durable = excluded.customer_durable, profile = excluded.profile, quantity = excluded.quantity, amount = excluded.amount, cost = excluded.cost, discount = excluded.discount",
@@ -501,10 +457,6 @@ impl KeyedTable for tables::Void {
 
     fn table() -> Table {
         Table::Void
-    }
-
-    fn is_in(format: Format) -> bool {
-        matches!(format, Format::Two)
     }
 
     fn statements() -> Statements {

@@ -2,23 +2,21 @@
 
 ghost use Rattle.std.specs.Prelude.{◌≡◌, ◌⊎◌, ◌++◌, ◌∷◌, [], List, IfOk, IfErr};
 ghost use Rattle.std.specs.FinMap.{values};
-ghost use Rattle.sqlite.specs.Held.{state};
-ghost use Rattle.sqlite.specs.State.{HasCleanDisk};
 ghost use Rattle.wh_rows.specs.KeyedSales.{keyed_sales, keyed_sales2, read_keyed_sale};
-ghost use Rattle.wh_rows.specs.declared.cause.Cause.{Cause};
 ghost use Rattle.wh_rows.specs.declared.keyed_sale.KeyedSale.{KeyedSale};
-ghost use Rattle.wh_sql.specs.Reads.{ReadsOnly, SaysOfTables, SaysOfStored, IsUndamaged, IsOfDamage};
-ghost use Rattle.wh_sql.specs.Refused.{IsCauseOfQuery};
+ghost use Rattle.wh_sql.specs.Answers.{TalliesRows};
 ghost use Rattle.wh_rows.specs.Facts.{facts_table, fact_layout, facts_in};
 ghost use Rattle.wh_sql.specs.Facts.{facts_by};
 ghost use Rattle.wh_sql.specs.Tally.{CountsOne, ShowsNoFact, HasCounted, HasCountedStored};
-ghost use Rattle.wh_sql.specs.declared.fault.ReadFault.TheVariants.{Memory, Damaged, Store};
+ghost use Rattle.wh_sql.specs.declared.fault.ReadFault.TheVariants.{Memory, Damaged};
 
+use crate::at_rest::Tables;
+use crate::fact_tables::facts_table;
 use crate::fault::ReadFault;
 use sqlite::{Alter, Connection, Row};
 use wh_day::ParseError;
 use wh_policy::{Dim, Format};
-use wh_rows::{Cause, FactColumn, KeyedSale, Table};
+use wh_rows::{Cause, FactColumn, KeyedSale};
 
 /// Counts sales one after the other, in whatever order they come. One that has failed keeps that to itself.
 pub trait FactAggregate {
@@ -94,16 +92,6 @@ fn facts_by(format: Format, which: FactColumn) -> &'static str
     }
 }
 
-/// The table of the facts of a format.
-fn facts_table(format: Format) -> Table
-    ensures { result ≡ facts_table format }
-{
-    match format {
-        Format::One => Table::Fact,
-        Format::Two => Table::Fact2,
-    }
-}
-
 /// Counts the sale that a row of the facts of a format shows.
 fn count_row<C: FactAggregate>(tally: &mut C, format: Format, row: &Row) -> Result<(), ReadFault>
     ensures counted { IfOk result (λ _. (sale : KeyedSale) × (row.now ≡ read_keyed_sale sale) × CountsOne C.counts tally.old tally.new sale) }
@@ -119,23 +107,15 @@ fn count_row<C: FactAggregate>(tally: &mut C, format: Format, row: &Row) -> Resu
     }
 }
 
-/// Counts each fact of a format in a tally, by the key in the column `which`, in whatever order the facts are stored. `Memory`: also where
-/// there are more facts than a `u64` counts. `Damaged`: a column that is read of a fact is out of its type. `Store`: also for facts of the
-/// second format in a warehouse of the first.
-pub fn tally_facts<C: FactAggregate, S: Alter>(
+/// Has a tally count each fact by one of its keys, as the database hands them out.
+fn each_fact_tallied<C: FactAggregate, S: Alter>(
     conn: &mut Connection<S>,
     format: Format,
     which: FactColumn,
     tally: &mut C,
 ) -> Result<(), ReadFault>
     requires { C.counts tally.old [] tally.old }
-    ensures reads { ReadsOnly (state S.Store conn.old) (state S.Store conn.new) result }
-    ensures counted { SaysOfTables (state S.Store conn.old) (state S.Store conn.new) (λ t. IfOk result (λ _. HasCounted C.counts which tally.old tally.new (values (facts_in format t)))) }
-    ensures sound { SaysOfTables (state S.Store conn.old) (state S.Store conn.new) (λ _. IsUndamaged result) }
-    // The same of any stored rows, by the columns that are read of them: each was counted, or one is damaged.
-    ensures stored { SaysOfStored (state S.Store conn.old) (state S.Store conn.new) (λ stored. IfOk result (λ _. HasCountedStored C.counts which tally.old tally.new (stored.rows (facts_table format)))) }
-    ensures damaged { SaysOfStored (state S.Store conn.old) (state S.Store conn.new) (λ stored. IfErr result (IsOfDamage (fact_layout format) (facts_table format) (stored.rows (facts_table format)))) }
-    ensures refused { HasCleanDisk (state S.Store conn.new) → IfErr result (λ fault. (why : Cause) → fault ≡ Store why → IsCauseOfQuery (facts_by format which) [] (state S.Store conn.old) (state S.Store conn.new) why) }
+    ensures { TalliesRows S.Store conn.old conn.new (facts_table format) (fact_layout format) (λ t. HasCounted C.counts which tally.old tally.new (values (facts_in format t))) (HasCountedStored C.counts which tally.old tally.new) (facts_by format which) result }
 {
     let mut rows = match conn.query(facts_by(format, which), &[]) {
         Ok(rows) => rows,
@@ -151,4 +131,21 @@ pub fn tally_facts<C: FactAggregate, S: Alter>(
         }
     }
     Err(ReadFault::Memory)
+}
+
+impl<S: Alter> Tables<S> {
+    /// Counts each fact of a format in a tally, by the key in the column `which`, in whatever order the facts are stored. `Memory`: also where
+    /// there are more facts than a `u64` counts. `Damaged`: a column that is read of a fact is out of its type. `Store`: also for facts of the
+    /// second format in a warehouse of the first.
+    pub fn tally_facts<C: FactAggregate>(
+        &mut self,
+        format: Format,
+        which: FactColumn,
+        tally: &mut C,
+    ) -> Result<(), ReadFault>
+        requires { C.counts tally.old [] tally.old }
+        ensures { TalliesRows S.Store self.old.conn self.new.conn (facts_table format) (fact_layout format) (λ t. HasCounted C.counts which tally.old tally.new (values (facts_in format t))) (HasCountedStored C.counts which tally.old tally.new) (facts_by format which) result }
+    {
+        each_fact_tallied(&mut self.conn, format, which, tally)
+    }
 }

@@ -1,6 +1,3 @@
-mod Transactions
-pub mod Looping
-mod InParts
 mod Refusals
 mod Reopened
 pub mod Opened
@@ -9,5 +6,4 @@ pub mod ScanningStored
 pub mod InMemory
 pub mod Faithful
 pub mod Absent
-pub mod FormatFacts
 mod FormatFaults

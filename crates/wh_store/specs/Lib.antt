@@ -1,11 +1,6 @@
 pub mod Meta
-pub mod Reads
-pub mod Writes
 pub mod Opening
-pub mod Edits
-pub mod Beginning
 pub mod InFiles
 pub mod Raw
 pub mod Faithful
 pub mod Scan
-pub mod FactTexts

@@ -1,6 +1,6 @@
 -- The rows of meta: the format and the limits of a warehouse.
-use Rattle.std.specs.Prelude.{ℕ, ℤ, Bool, pos, codes, List, [], ◌∷◌, ◌++◌, map, if◌then◌else◌, Option, Some, None, Result, Ok, Err, int_lt}
-use Rattle.std.specs.FinMap.{insert, get}
+use Rattle.std.specs.Prelude.{ℕ, ℤ, Bool, pos, codes, List, [], ◌∷◌, map, if◌then◌else◌, Option, Some, None, Result, Ok, Err, int_lt}
+use Rattle.std.specs.FinMap.{get}
 use Rattle.sqlite_value.specs.declared.value.Value.TheVariants.{Text}
 use Rattle.sqlite.specs.Order.{Row}
 use Rattle.wh_history.specs.Tables.{Limits}
@@ -9,11 +9,8 @@ use Rattle.wh_policy.specs.Formats.{format_number}
 use Rattle.wh_policy.specs.declared.format.Format.TheVariants.{One, Two}
 use Rattle.wh_rows.specs.Limits.{limits_of}
 use Rattle.wh_rows.specs.declared.rows.MetaRow.{MetaRow}
-use Rattle.wh_rows.specs.Tables.{Tables, no_tables}
-use Rattle.wh_rows.specs.Rows.{encode_meta}
-use Rattle.wh_rows.specs.Making.{making_texts}
+use Rattle.wh_rows.specs.Tables.{Tables}
 use Rattle.wh_rows.specs.Texts as texts
-use Rattle.wh_sql.specs.Refused.{bare}
 use Rattle.wh_store.specs.declared.fault.OpenFault.{OpenFault}
 use Rattle.wh_store.specs.declared.fault.OpenFault.TheVariants.{NotAWarehouse, OldFormat, NewFormat}
 
@@ -25,15 +22,6 @@ meta_number None = None
 -- the number under a name
 abbrev pub number_in : Tables → List ℕ → Option ℤ
 number_in t name = meta_number (get t.meta name)
-
--- one more row
-abbrev pub with_number : List ℕ → ℤ → Tables → Tables
-with_number name value t = record t { meta = insert t.meta name (record { name = name; value = value }) }
-
--- the ten tables of a new warehouse of format 1, with these limits and no other row
-abbrev pub made_with : Limits → Tables
-made_with limits =
-    with_number (codes "format") (pos 1) (with_number (codes "facts_max") (pos limits.facts) (with_number (codes "commands_max") (pos limits.commands) (with_number (codes "changes_max") (pos limits.changes) no_tables)))
 
 -- The format that a number says, by the newest format that is known, and where the tables of the second are there or not; or why it is none: no number,
 -- or the second without its tables; below 1; above the newest.
@@ -50,16 +38,7 @@ limits_of_numbers _ _ _ = None
 abbrev pub limits_in : Tables → Option Limits
 limits_in t = limits_of_numbers (number_in t (codes "commands_max")) (number_in t (codes "changes_max")) (number_in t (codes "facts_max"))
 
--- ---- the statements that keep them
-
--- the rows of meta of a new warehouse
-abbrev pub rows_made : Limits → List MetaRow
-rows_made limits =
-    record { name = codes "changes_max"; value = pos limits.changes } ∷ record { name = codes "commands_max"; value = pos limits.commands } ∷ record { name = codes "facts_max"; value = pos limits.facts } ∷ record { name = codes "format"; value = pos 1 } ∷ []
-
--- the statements that make a warehouse with these limits, with their parameters
-unfoldable pub making : Limits → List (List ℕ × Row)
-making limits = bare making_texts ++ map (λ row. (texts.meta.put, encode_meta row)) (rows_made limits)
+-- ---- the statements that ask for them
 
 -- the questions after the three limits, with their parameters
 abbrev pub limits_asked : List (List ℕ × Row)

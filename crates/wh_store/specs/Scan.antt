@@ -15,9 +15,9 @@ use Rattle.wh_rows.specs.Names.{is_there}
 use Rattle.wh_rows.specs.Tables.{Tables as TypedTables}
 use Rattle.wh_sql.specs.Reads.{IsOfAskedDamage, FailsToShow, ReadsOnly}
 use Rattle.wh_sql.specs.declared.fault.ReadFault.{ReadFault}
-use Rattle.wh_store.specs.Reads.{state_of, SaysAsStored, SaysInFormat, SaysAsStoredIn}
+use Rattle.wh_sql.specs.Answers.{state_of, SaysAsStored, SaysInFormat, SaysAsStoredIn}
 use Rattle.wh_store.specs.declared.scan.Cursor.{Cursor}
-use Rattle.wh_store.specs.declared.tables.Tables.{Tables}
+use Rattle.wh_sql.specs.declared.at_rest.Tables.{Tables}
 
 -- of a table, those that were read ahead, and then those after the last of them
 abbrev pub rows_left : {K V : Type 0} (layout : Layout K V) → FinMap layout.order V → Cursor K V → List V

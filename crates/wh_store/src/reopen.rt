@@ -19,7 +19,7 @@ use sqlite::{
 use sqlite_disk::{Crash, Disk};
 use std::alloc::{AllocError, Global};
 
-/// A database in memory in which nothing is yet. `Tables::for_init` takes it.
+/// A database in memory in which nothing is yet. `for_init` takes it.
 pub fn open_fresh(alloc: Global) -> Result<Connection<MemStore>, AllocError>
     ensures { IfOk result (λ conn. IsAtRest None (state over_memory conn)) }
 {

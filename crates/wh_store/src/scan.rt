@@ -4,21 +4,19 @@ ghost use Rattle.std.specs.Prelude.{◌≡◌, List, [], ◌-◌, false, Ok, Non
 ghost use Rattle.std.specs.FinMap.{FinMap, values};
 ghost use Rattle.std.specs.Vec.Iter.{into_iter_items};
 ghost use Rattle.wh_rows.specs.Holds.{Layout};
-ghost use Rattle.wh_rows.specs.Names.{is_there};
 ghost use Rattle.wh_rows.specs.Tables.{Tables as TypedTables};
 ghost use Rattle.wh_rows.specs.Parts.{IsArranged};
 ghost use Rattle.wh_rows.specs.Raw.{Stored};
 ghost use Rattle.sqlite.specs.Order.{Row as Columns};
 ghost use Rattle.wh_sql.specs.Page.{HasKey};
-ghost use Rattle.wh_store.specs.Reads.{SaysInFormat, SaysAsStoredIn, ReadsOnlyIn, WhenAtRest, WhenStored};
-ghost use Rattle.wh_store.specs.Scan.{rows_left, HandsOut, IsOver, AreLeft, HandsOutOf, AreValid, FailsToShowPart, IsOfDamagedPart, ScansOn};
+ghost use Rattle.wh_sql.specs.Answers.{SaysAsStoredIn, ReadsOnlyIn, WhenAtRest, WhenStored};
+ghost use Rattle.wh_store.specs.Scan.{rows_left, IsOver, AreLeft, AreValid, FailsToShowPart, IsOfDamagedPart, ScansOn};
 
-use crate::tables::Tables;
 use sqlite::Alter;
 use std::alloc::{AllocError, Global};
 use std::vec::IntoIter;
 use wh_policy::Format;
-use wh_sql::{Page, PagedTable, ReadFault};
+use wh_sql::{Page, PagedTable, ReadFault, Tables, is_in};
 
 /// How far a scan of a table has come.
 #[derive(Drop)]
@@ -107,7 +105,7 @@ pub fn next_row<T: PagedTable, S: Alter>(
     if cursor.is_over {
         return Ok(None);
     }
-    if !T::is_in(format) {
+    if !is_in(T::table(), format) {
         return Ok(None);
     }
     read_ahead::<T, S>(tables, alloc, cursor)?;
@@ -125,6 +123,21 @@ pub struct Scan<'t, S: Alter, T: PagedTable> {
 }
 
 impl<'t, S: Alter, T: PagedTable> Scan<'t, S, T> {
+    /// Before the first row of a table of these tables, which are of the format.
+    pub fn new(tables: &'t mut Tables<S>, alloc: Global, format: Format) -> Scan<'t, S, T>
+        ensures same_reference { result.tables.ghost_name ≡ tables.entry.ghost_name }
+        ensures same { result.tables.now ≡ tables.old }
+        ensures format { result.format ≡ format }
+        ensures left { (t : TypedTables) → rows_left T.StoredTable.layout (T.StoredTable.rows t) result.cursor ≡ values (T.StoredTable.rows t) }
+        ensures left_stored { (stored : Stored) (left : List Columns) → AreLeft T.StoredTable.layout T.KeyedTable.bind (stored.rows T.KeyedTable.name) result.cursor left → IsArranged T.StoredTable.layout.table (stored.rows T.KeyedTable.name) left }
+    {
+        Scan {
+            tables,
+            format,
+            cursor: Cursor::new(alloc),
+        }
+    }
+
     /// The next row. `Damaged`: a row of the part that is read with it is out of its type. After a fault none comes.
     pub fn next_row(&mut self, alloc: Global) -> Result<Option<T::Row>, ReadFault>
         ensures same_reference { self.new.tables.ghost_name ≡ self.old.tables.ghost_name }
@@ -132,22 +145,5 @@ impl<'t, S: Alter, T: PagedTable> Scan<'t, S, T> {
         ensures next { ScansOn S.Store T.KeyedTable.name T.StoredTable.layout T.StoredTable.rows T.part_texts T.KeyedTable.bind self.old.format self.old.tables.now self.new.tables.now self.old.cursor self.new.cursor result }
     {
         next_row::<T, S>(self.tables, alloc, self.format, &mut self.cursor)
-    }
-}
-
-impl<S: Alter> Tables<S> {
-    /// The rows of a table of these tables, which are of the format, in the order of their keys, one at a time.
-    pub fn scan<T: PagedTable>(&mut self, alloc: Global, format: Format) -> Scan<'_, S, T>
-        ensures same_reference { result.tables.ghost_name ≡ self.entry.ghost_name }
-        ensures same { result.tables.now ≡ self.old }
-        ensures format { result.format ≡ format }
-        ensures left { (t : TypedTables) → rows_left T.StoredTable.layout (T.StoredTable.rows t) result.cursor ≡ values (T.StoredTable.rows t) }
-        ensures left_stored { (stored : Stored) (left : List Columns) → AreLeft T.StoredTable.layout T.KeyedTable.bind (stored.rows T.KeyedTable.name) result.cursor left → IsArranged T.StoredTable.layout.table (stored.rows T.KeyedTable.name) left }
-    {
-        Scan {
-            tables: self,
-            format,
-            cursor: Cursor::new(alloc),
-        }
     }
 }

@@ -11,7 +11,7 @@ use std::alloc::{AllocError, Global};
 /// A store whose two files lie on disks in memory, for as many rows as a file takes.
 pub type Scratch = FileStore<Memory>;
 
-/// A new database over such a store in which nothing is yet. `Tables::for_init` takes it. Any refusal is answered as a lack of memory.
+/// A new database over such a store in which nothing is yet. `for_init` takes it. Any refusal is answered as a lack of memory.
 pub fn open_scratch(alloc: Global) -> Result<Connection<Scratch>, AllocError>
     ensures { IfOk result (RestsFaithfully over_files None) }
 {

@@ -8,7 +8,7 @@ ghost use Rattle.wh_rows.specs.Questions.{durable_of};
 ghost use Rattle.wh_plan.specs.MovedFacts.{pair_of};
 ghost use Rattle.wh_plan.specs.OnePass.{first_moving, moved_fact, mover, moving_of, on_day, owner_in, seen, first_with};
 ghost use Rattle.wh_plan.specs.RecordPlan.{MovesFacts};
-ghost use Rattle.wh_store.specs.Reads.{ReadsOnlyIn};
+ghost use Rattle.wh_sql.specs.Answers.{ReadsOnlyIn};
 ghost use Rattle.wh_plan.specs.Reads.{WhenOfCommands};
 
 use crate::records::touched::TouchedMember;

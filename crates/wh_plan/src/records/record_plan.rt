@@ -11,7 +11,7 @@ ghost use Rattle.wh_model.specs.Defined.{command_at};
 ghost use Rattle.wh_plan.specs.BatchRows.{AreBatchRows};
 ghost use Rattle.wh_plan.specs.NewRows.{Records, members_among, naturals_told, rows_of_members};
 ghost use Rattle.wh_plan.specs.Reading.{HaveNoEmptyValue};
-ghost use Rattle.wh_store.specs.Reads.{ReadsOnlyIn};
+ghost use Rattle.wh_sql.specs.Answers.{ReadsOnlyIn};
 ghost use Rattle.wh_plan.specs.Reads.{WhenOfCommands};
 ghost use Rattle.wh_plan.specs.RecordPlan.{AreTouched, IsFound, IsPlanned, PlansRecords};
 ghost use Rattle.wh_model.specs.Sound.{AreTypes, IsAccepted};

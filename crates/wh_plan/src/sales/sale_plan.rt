@@ -10,7 +10,7 @@ ghost use Rattle.wh_model.specs.Sound.{IsAccepted, same_line};
 ghost use Rattle.wh_plan.specs.SoldMembers.{IsSoldDimension};
 ghost use Rattle.wh_plan.specs.BatchRows.{AreBatchRows, IsNewLine};
 ghost use Rattle.wh_plan.specs.Edits.{AreEdits};
-ghost use Rattle.wh_store.specs.Reads.{ReadsOnlyIn};
+ghost use Rattle.wh_sql.specs.Answers.{ReadsOnlyIn};
 ghost use Rattle.wh_plan.specs.Reads.{WhenOfCommands};
 
 use crate::batch_rows::{BatchRows, edits_of_batch};

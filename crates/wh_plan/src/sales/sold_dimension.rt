@@ -9,7 +9,7 @@ ghost use Rattle.wh_history.specs.Shapes.{shown};
 ghost use Rattle.wh_history.specs.declared.plan.Edit.TheVariants.{Put};
 ghost use Rattle.wh_policy.specs.Written.{IsSound};
 ghost use Rattle.wh_plan.specs.Reading.{HaveNoEmptyValue};
-ghost use Rattle.wh_store.specs.Reads.{ReadsOnlyIn};
+ghost use Rattle.wh_sql.specs.Answers.{ReadsOnlyIn};
 ghost use Rattle.wh_plan.specs.Reads.{WhenOfCommands};
 ghost use Rattle.wh_plan.specs.SoldMembers.{naturals_sold, numbered, placeholder, FindsSold, IsSoldDimension};
 ghost use Rattle.wh_model.specs.Sound.{AreTypes};

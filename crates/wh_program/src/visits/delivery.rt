@@ -7,7 +7,7 @@ ghost use Rattle.wh_engine.specs.Answered.{IsAnswered};
 ghost use Rattle.wh_engine.specs.Scanned.{WhenReady};
 ghost use Rattle.wh_engine.specs.declared.fault.Fault.{Fault as Faults};
 ghost use Rattle.wh_admission.specs.declared.command.Reply.{Reply as Replies};
-ghost use Rattle.wh_store.specs.Reads.{state_of};
+ghost use Rattle.wh_sql.specs.Answers.{state_of};
 ghost use Rattle.wh_program.specs.Answer.{status_code};
 ghost use Rattle.wh_program.specs.Delivery.{AreCommandsOf, Delivers, DeliversTo, IsDeliveredOver, LacksInput, AnswersSent, AnswersListed, AnswersRead, AnswersDelivery, LacksEntry, LacksListed, LacksManifest};
 ghost use Rattle.wh_program.specs.Reply.{sent_answer};

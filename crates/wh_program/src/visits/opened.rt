@@ -5,7 +5,7 @@ ghost use Rattle.sqlite.specs.State.{HasCleanDisk};
 ghost use Rattle.wh_history.specs.Accepted.{Accepted};
 ghost use Rattle.wh_history.specs.Tables.{Limits};
 ghost use Rattle.wh_engine.specs.Answered.{IsReady};
-ghost use Rattle.wh_store.specs.Reads.{state_of};
+ghost use Rattle.wh_sql.specs.Answers.{state_of};
 ghost use Rattle.wh_program.specs.Standing.{DatabaseContent, IsAt, Rests, Standing, Stands};
 ghost use Rattle.wh_program.specs.Warehouse.{Shown, LooksAt, Opens, AnswersWork, AnswersShut, IsNoFile};
 ghost use Rattle.wh_program.specs.Tasks.{SparesOthers};

@@ -5,7 +5,7 @@ use Rattle.wh_rows.specs.Tables.{Tables as TypedTables}
 use Rattle.wh_rows.specs.declared.table.Table.{Table}
 use Rattle.wh_admission.specs.Checked.{Covers, IsDefined, stored_in, table_place}
 use Rattle.wh_store.specs.Faithful.{RestsFaithfully}
-use Rattle.wh_store.specs.Reads.{ReadsOnly, state_of, SaysAsStored}
+use Rattle.wh_sql.specs.Answers.{ReadsOnly, state_of, SaysAsStored}
 use Rattle.wh_checking.specs.Replica.{HoldsAll}
 use Rattle.wh_checking.proofs.checking.judge_tables.Given as goal
 

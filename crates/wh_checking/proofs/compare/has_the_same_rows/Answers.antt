@@ -4,7 +4,7 @@ use Rattle.std.specs.FinMap.{values, get}
 use Rattle.sqlite.specs.Order.{Row}
 use Rattle.std.proofs.lemmas.Result.{err_from_is_err_and}
 use Rattle.wh_rows.specs.Parts.{forward, stands_behind}
-use Rattle.wh_store.specs.Reads.{state_of}
+use Rattle.wh_sql.specs.Answers.{state_of}
 use Rattle.wh_store.specs.Scan.{AreLeft, HandsOutOf, rows_left}
 use Rattle.wh_checking.proofs.Comparing.{HasSeen, seen_none, seen_next, seen_past, compared, compared_other, part_damaged}
 use Rattle.wh_checking.proofs.ListedMaps.{rows_or_not, listed}

@@ -3,7 +3,7 @@ use Rattle.std.specs.FinMap.{values}
 use Rattle.wh_rows.specs.Names.{is_there}
 use Rattle.wh_rows.specs.Tables.{Tables as TypedTables}
 use Rattle.wh_store.specs.Faithful.{RestsFaithfully}
-use Rattle.wh_store.specs.Reads.{ReadsOnly, state_of, SaysAsStored}
+use Rattle.wh_sql.specs.Answers.{ReadsOnly, state_of, SaysAsStored}
 use Rattle.wh_store.specs.Scan.{AreLeft, AreValid, rows_left}
 use Rattle.wh_checking.proofs.Comparing.{HasSeen}
 use Rattle.wh_checking.proofs.compare.has_the_same_rows.Given as goal

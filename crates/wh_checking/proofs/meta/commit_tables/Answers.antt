@@ -1,8 +1,8 @@
 use Rattle.std.proofs.Common.{◌≡◌, None, Some, rules}
 use Rattle.sqlite.specs.Steps.{over_memory}
 use Rattle.wh_rows.specs.AtRest.{IsAtRest}
-use Rattle.wh_store.specs.Meta.{made_with}
-use Rattle.wh_store.specs.Reads.{state_of}
+use Rattle.wh_sql.specs.Making.{made_with}
+use Rattle.wh_sql.specs.Answers.{state_of}
 use Rattle.wh_store.proofs.InMemory.{is_clean}
 use Rattle.std.specs.Prelude.{IsTrue}
 use Rattle.wh_rows.specs.Rows as row

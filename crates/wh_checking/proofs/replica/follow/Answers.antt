@@ -3,7 +3,7 @@ use Rattle.std.specs.Prelude.{bytes_eq}
 use Rattle.std.proofs.lemmas.Slice.Eq.{bytes_eq-Decides}
 use Rattle.wh_batch.specs.BatchKind.{command_kind_of_word}
 use Rattle.wh_admission.specs.Admission.{kept_bytes}
-use Rattle.wh_store.specs.Reads.{state_of}
+use Rattle.wh_sql.specs.Answers.{state_of}
 use Rattle.wh_engine.specs.Answered.{IsAnswered}
 use Rattle.wh_checking.specs.Replica.{IsOpenFor}
 use Rattle.wh_checking.proofs.Followed.{sent, no_kind, other_bytes, is_accepted, is_again, is_refused}

@@ -2,7 +2,7 @@ use Rattle.std.proofs.Common.{[], ◌∷◌, sym, ap, subst, ◌∙◌}
 use Rattle.sqlite.specs.Files.{over_files}
 use Rattle.wh_policy.specs.Policy.{read_policy}
 use Rattle.wh_model.specs.Sound.{init_of}
-use Rattle.wh_store.specs.Reads.{state_of}
+use Rattle.wh_sql.specs.Answers.{state_of}
 use Rattle.wh_engine.specs.Answered.{IsReady}
 use Rattle.wh_checking.proofs.Followed.{made_next, no_making, no_policy}
 use Rattle.wh_checking.proofs.replica.made.Goals as goal

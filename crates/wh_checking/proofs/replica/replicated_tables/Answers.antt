@@ -12,7 +12,7 @@ use Rattle.wh_rows.specs.declared.table.Table.TheVariants.{Command}
 use Rattle.wh_rows.proofs.Once as once
 use Rattle.wh_rows.proofs.Parts.{command_keyed}
 use Rattle.wh_admission.specs.Checked.{stored_in}
-use Rattle.wh_store.specs.Reads.{state_of}
+use Rattle.wh_sql.specs.Answers.{state_of}
 use Rattle.wh_store.specs.Scan.{AreLeft, HandsOutOf}
 use Rattle.wh_checking.proofs.Comparing.{part_damaged}
 use Rattle.wh_sql.proofs.InTurn.{reads_nothing, answers_other, runs_out, then_reads, fails_other}

@@ -2,7 +2,7 @@ use Rattle.std.specs.Prelude.{Ok}
 use Rattle.wh_rows.specs.Keys.{bind_number}
 use Rattle.wh_rows.specs.Rows as row
 use Rattle.wh_rows.specs.declared.table.Table.TheVariants.{Command}
-use Rattle.wh_store.specs.Reads.{ReadsOnly, state_of, SaysAsStored}
+use Rattle.wh_sql.specs.Answers.{ReadsOnly, state_of, SaysAsStored}
 use Rattle.wh_store.specs.Scan.{AreLeft, AreValid}
 use Rattle.wh_checking.proofs.Replicating.{HasReplicated}
 use Rattle.wh_checking.proofs.replica.replicated_tables.Given as goal

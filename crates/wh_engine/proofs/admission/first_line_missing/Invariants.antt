@@ -1,6 +1,6 @@
 use Rattle.std.proofs.Common.{◌≡◌, ◌+◌, drop, Ok}
 use Rattle.wh_history.specs.Accepted.{format_of, standing}
-use Rattle.wh_store.specs.Reads.{ReadsOnly, state_of}
+use Rattle.wh_sql.specs.Answers.{ReadsOnly, state_of}
 use Rattle.wh_plan.specs.Reads.{Finds}
 use Rattle.wh_admission.specs.Admission.{first_line_missing}
 use Rattle.wh_engine.proofs.admission.first_line_missing.Given as goal

@@ -5,7 +5,7 @@ use Rattle.wh_admission.specs.Admission.{AreAdmitted}
 use Rattle.wh_plan.specs.Reads.{Finds}
 use Rattle.wh_records.specs.Carried.{carried_between}
 use Rattle.wh_records.specs.Filled.{IsFilled}
-use Rattle.wh_store.specs.Reads.{ReadsOnly, state_of}
+use Rattle.wh_sql.specs.Answers.{ReadsOnly, state_of}
 use Rattle.wh_engine.specs.Carried.{IsSourceOf}
 use Rattle.wh_engine.proofs.carried.fill.Given as goal
 

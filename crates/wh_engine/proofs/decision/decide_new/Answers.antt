@@ -8,7 +8,7 @@ use Rattle.wh_admission.specs.declared.command.Reply.TheVariants.{Accepted as Ac
 use Rattle.wh_engine.specs.Decided.{Decides}
 use Rattle.wh_sql.specs.Present.{is_second_taken}
 use Rattle.wh_sql.proofs.Worked.{second_taken}
-use Rattle.wh_store.specs.Reads.{state_of}
+use Rattle.wh_sql.specs.Answers.{state_of}
 use Rattle.wh_batch.specs.declared.kind.CommandKind.TheVariants.{Upgrade}
 use Rattle.wh_engine.proofs.Contents.{brought, says_upgrades, fault_judged, placeholders_told, unread_reads, unread_refused}
 use Rattle.wh_engine.proofs.Decisions.{command_accepted, content_refused, judged_err, judged_ok, next_number, not_again, number_refused}

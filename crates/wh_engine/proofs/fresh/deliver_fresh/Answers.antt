@@ -4,7 +4,7 @@ use Rattle.sqlite.specs.State.{HasCleanDisk}
 use Rattle.sqlite.specs.Steps.{over_memory}
 use Rattle.wh_model.specs.Sound.{init_of}
 use Rattle.wh_sql.proofs.Worked.{taken_in_none}
-use Rattle.wh_store.specs.Reads.{is_any_taken}
+use Rattle.wh_sql.specs.Answers.{is_any_taken}
 use Rattle.wh_engine.specs.Delivered.{IsDelivered}
 use Rattle.wh_engine.specs.Opened.{IsNotMade}
 use Rattle.wh_engine.proofs.fresh.deliver_fresh.Goals as goal

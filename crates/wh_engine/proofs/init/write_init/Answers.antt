@@ -1,7 +1,7 @@
 use Rattle.std.proofs.Common.{◌∙◌, None, ap}
 use Rattle.std.proofs.lemmas.Result.{on_ok_weaker}
 use Rattle.wh_history.specs.Tables.{no_card_row}
-use Rattle.wh_store.specs.Meta.{made_with}
+use Rattle.wh_sql.specs.Making.{made_with}
 use Rattle.wh_plan.specs.FirstRows.{first_profiles}
 use Rattle.wh_engine.proofs.MadeFirst.{AreFirst, are_first}
 use Rattle.wh_engine.proofs.init.write_init.Given.{Over}

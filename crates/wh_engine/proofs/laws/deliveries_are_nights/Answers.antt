@@ -1,4 +1,4 @@
-use Rattle.wh_store.specs.Reads.{state_of}
+use Rattle.wh_sql.specs.Answers.{state_of}
 use Rattle.wh_engine.proofs.DeliveredNights.{delivery_is_a_night}
 use Rattle.wh_engine.proofs.laws.deliveries_are_nights.Goals as goal
 

@@ -1,7 +1,7 @@
 use Rattle.std.proofs.Common.{◌≡◌, ◌∙◌, subst, slice_get, Some, filter}
 use Rattle.std.proofs.lemmas.Result.{err_from_is_err_and}
 use Rattle.std.specs.FinMap.{values}
-use Rattle.wh_store.specs.Reads.{state_of}
+use Rattle.wh_sql.specs.Answers.{state_of}
 use Rattle.wh_engine.specs.Opened.{of_command, last_policy_in, IsAsSaid}
 use Rattle.wh_rows.specs.Firsts.{last_one, part}
 use Rattle.wh_rows.specs.Questions.{gives_policy}

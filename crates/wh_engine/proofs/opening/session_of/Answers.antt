@@ -1,6 +1,6 @@
 use Rattle.std.proofs.Common.{ap, refl}
 use Rattle.std.proofs.lemmas.Result.{err_from_is_err_and}
-use Rattle.wh_store.specs.Reads.{state_of}
+use Rattle.wh_sql.specs.Answers.{state_of}
 use Rattle.wh_engine.specs.Opened.{of_limits, of_command, last_policy_in, session_in}
 use Rattle.wh_engine.proofs.OpenedTables.{fault_goes_on, limits_unread, policy_fault, session_is}
 use Rattle.wh_engine.proofs.OpenedStored.{unlimited_spares, limits_refused, policy_refused}
@@ -11,7 +11,7 @@ pub returns-in_err-limits-clause-read : goal.returns-in_err-limits-clause-read
 returns-in_err-limits-clause-read g c clean t rests =
     let p = err_from_is_err_and c.from_residual.result c.from_residual.ensures.1 in
     let reads = c.in_err-limits.ensures.reads in
-    rw (p.1, p.2) (limits_unread t c.args.format c.in_err-limits.field-0.0 (state_of g.S.Store c.limits.new.self) (c.in_err-limits.ensures.damaged clean t rests) (tables_again reads clean t rests) (tables_left reads clean t rests))
+    rw (p.1, p.2) (limits_unread t c.args.format c.in_err-limits.field-0.0 (state_of g.S.Store c.find_limits.new.tables) (c.in_err-limits.ensures.damaged clean t rests) (tables_again reads clean t rests) (tables_left reads clean t rests))
 
 pub returns-in-Ok-clause-read : goal.returns-in-Ok-clause-read
 returns-in-Ok-clause-read g c clean t rests =
@@ -32,7 +32,7 @@ returns-in-Err-clause-read g c clean t rests =
 pub returns-in_err-limits-clause-reads : goal.returns-in_err-limits-clause-reads
 returns-in_err-limits-clause-reads g c =
     let p = err_from_is_err_and c.from_residual.result c.from_residual.ensures.1 in
-    rw (p.1, p.2) (unlimited_spares (state_of g.S.Store c.args.tables.now) (state_of g.S.Store c.limits.new.self) c.in_err-limits.field-0.0 c.in_err-limits.ensures.reads)
+    rw (p.1, p.2) (unlimited_spares (state_of g.S.Store c.args.tables.now) (state_of g.S.Store c.find_limits.new.tables) c.in_err-limits.field-0.0 c.in_err-limits.ensures.reads)
 
 pub returns-in_err-limits-clause-sessionless : goal.returns-in_err-limits-clause-sessionless
 returns-in_err-limits-clause-sessionless g c clean stored at =

@@ -1,5 +1,5 @@
 use Rattle.std.proofs.Common.{Ok}
-use Rattle.wh_store.specs.Reads.{ReadsOnly, state_of}
+use Rattle.wh_sql.specs.Answers.{ReadsOnly, state_of}
 use Rattle.wh_engine.proofs.preview.free_id.Given as goal
 
 abbrev pub invariant-numbers : goal.invariant-numbers

@@ -4,7 +4,7 @@ use Rattle.std.specs.FinMap.{get, values}
 use Rattle.std.proofs.lemmas.Result.{IfOk-weaker}
 use Rattle.wh_rows.specs.Facts.{facts_in, fact_layout}
 use Rattle.wh_rows.specs.declared.key.LineKey.{LineKey}
-use Rattle.wh_store.specs.Reads.{ReadsOnly, state_of}
+use Rattle.wh_sql.specs.Answers.{ReadsOnly, state_of}
 use Rattle.wh_engine.specs.Tickets.{first_behind, is_between, is_past}
 use Rattle.wh_engine.proofs.NoLines.{no_fact, none_told, reads_told}
 use Rattle.wh_engine.proofs.tickets.has_no_fact.Goals as goal

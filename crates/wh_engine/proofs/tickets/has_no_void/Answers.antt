@@ -7,7 +7,7 @@ use Rattle.wh_model.specs.Defined.{void_at}
 use Rattle.wh_model.proofs.SameLines.{void_stored}
 use Rattle.wh_rows.specs.Rows.{void}
 use Rattle.wh_rows.specs.declared.key.LineKey.{LineKey}
-use Rattle.wh_store.specs.Reads.{ReadsOnly, state_of}
+use Rattle.wh_sql.specs.Answers.{ReadsOnly, state_of}
 use Rattle.wh_engine.specs.Tickets.{first_behind, is_between, is_past}
 use Rattle.wh_engine.proofs.NoLines.{no_void, not_some, none_told, reads_told}
 use Rattle.wh_engine.proofs.tickets.has_no_void.Goals as goal

@@ -1,7 +1,7 @@
 use Rattle.std.proofs.Common.{Some, subst, ◌∙◌, arith}
 use Rattle.sqlite.specs.Held.{state}
 use Rattle.wh_rows.specs.AtRest.{IsWriting}
-use Rattle.wh_store.proofs.Looping.{next_is}
+use Rattle.wh_sql.proofs.Looping.{next_is}
 use Rattle.wh_engine.proofs.PutFacts.{next_may, next_way, way_ends}
 use Rattle.wh_engine.proofs.write.edit_each_fact.Goals as goal
 

@@ -2,7 +2,7 @@ use Rattle.std.proofs.Common.{◌≡◌, ◌-◌, ◌≤◌, map, take, drop}
 use Rattle.std.specs.Prelude.{Ok}
 use Rattle.wh_history.specs.Accepted.{members, member_of}
 use Rattle.wh_plan.specs.Reading.{HaveNoEmptyValue}
-use Rattle.wh_store.specs.Reads.{ReadsOnly, state_of}
+use Rattle.wh_sql.specs.Answers.{ReadsOnly, state_of}
 use Rattle.wh_plan.specs.Reads.{Finds}
 use Rattle.wh_migration.proofs.all_members.members_between.Given as goal
 

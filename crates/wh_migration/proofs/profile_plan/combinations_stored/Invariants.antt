@@ -2,7 +2,7 @@ use Rattle.std.proofs.Common.{◌≡◌, []}
 use Rattle.std.specs.Prelude.{Ok, flat_map}
 use Rattle.std.specs.FinMap.{values}
 use Rattle.wh_rows.specs.Rows as row
-use Rattle.wh_store.specs.Reads.{ReadsOnly, state_of}
+use Rattle.wh_sql.specs.Answers.{ReadsOnly, state_of}
 use Rattle.wh_store.specs.Scan.{rows_left}
 use Rattle.wh_migration.specs.Migration.{stored_by}
 use Rattle.wh_plan.specs.Profiles.{with_combinations}

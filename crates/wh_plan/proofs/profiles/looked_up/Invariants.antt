@@ -1,7 +1,7 @@
 use Rattle.std.proofs.Common.{◌≡◌, ◌++◌, drop}
 use Rattle.std.specs.Prelude.{Ok}
 use Rattle.wh_plan.specs.Profiles.{number_kept, learned}
-use Rattle.wh_store.specs.Reads.{ReadsOnly, state_of}
+use Rattle.wh_sql.specs.Answers.{ReadsOnly, state_of}
 use Rattle.wh_plan.specs.Reads.{Tells}
 use Rattle.wh_plan.proofs.profiles.looked_up.Given as goal
 

@@ -1,7 +1,7 @@
 use Rattle.std.proofs.Common.{◌≡◌, map, take}
 use Rattle.std.specs.Prelude.{Ok}
 use Rattle.wh_engine.specs.Scanned.{ReadsThrough}
-use Rattle.wh_store.specs.Reads.{SaysAtRest, SaysAsStored, state_of}
+use Rattle.wh_sql.specs.Answers.{SaysAtRest, SaysAsStored, state_of}
 use Rattle.wh_query.specs.Answered.{lead_in, AreLeads}
 use Rattle.wh_query.specs.Led.{lead_of}
 use Rattle.wh_query.proofs.answer.led_columns.Given as goal

@@ -1,7 +1,7 @@
 use Rattle.std.proofs.Common.{◌∙◌, ap, sym, map, Ok, Err, ℕ, List}
 use Rattle.std.proofs.lemmas.Result.{err_from_is_err_and}
 use Rattle.wh_policy.specs.declared.format.Format.{Format}
-use Rattle.wh_store.specs.Reads.{state_of}
+use Rattle.wh_sql.specs.Answers.{state_of}
 use Rattle.wh_report.specs.Sums.{Figures}
 use Rattle.wh_report.proofs.EngineReading.{through}
 use Rattle.wh_query.specs.Answered.{report_fault}

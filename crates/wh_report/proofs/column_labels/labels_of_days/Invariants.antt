@@ -6,7 +6,7 @@ use Rattle.wh_rows.specs.Keys.{bind_number}
 use Rattle.wh_rows.specs.declared.table.Table.TheVariants as table
 use Rattle.wh_store.specs.Scan.{rows_left, AreLeft, AreValid}
 use Rattle.wh_engine.specs.Scanned.{ReadsThrough}
-use Rattle.wh_store.specs.Reads.{SaysAtRest, SaysAsStored, state_of}
+use Rattle.wh_sql.specs.Answers.{SaysAtRest, SaysAsStored, state_of}
 use Rattle.wh_report.specs.Labels.{date_labels, AreLabels}
 use Rattle.wh_report.proofs.Arranged.{HasMade}
 use Rattle.wh_report.proofs.HandedRows.{Seen}

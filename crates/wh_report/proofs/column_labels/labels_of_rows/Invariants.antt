@@ -5,7 +5,7 @@ use Rattle.wh_report.specs.Reported.{left_of_dim, rows_of_dim, layout_of_dim}
 use Rattle.wh_rows.specs.Keys.{bind_number}
 use Rattle.wh_store.specs.Scan.{AreLeft, AreValid}
 use Rattle.wh_engine.specs.Scanned.{ReadsThrough}
-use Rattle.wh_store.specs.Reads.{SaysAtRest, SaysAsStored, state_of}
+use Rattle.wh_sql.specs.Answers.{SaysAtRest, SaysAsStored, state_of}
 use Rattle.wh_report.specs.Labels.{labels_get, row_labels, AreLabels}
 use Rattle.wh_report.proofs.Arranged.{HasMade}
 use Rattle.wh_report.proofs.HandedRows.{Seen}

@@ -2,7 +2,7 @@ use Rattle.std.proofs.Common.{◌≡◌, ◌++◌}
 use Rattle.std.specs.Prelude.{Ok}
 use Rattle.std.specs.FinMap.{values}
 use Rattle.wh_engine.specs.Scanned.{ReadsThrough}
-use Rattle.wh_store.specs.Reads.{SaysInFormat, SaysAsStoredIn, state_of}
+use Rattle.wh_sql.specs.Answers.{SaysInFormat, SaysAsStoredIn, state_of}
 use Rattle.wh_store.specs.Scan.{rows_left, AreLeft, AreValid}
 use Rattle.wh_report.specs.Dump.{header_line, row_line}
 use Rattle.wh_report.specs.CsvBuffer.{Gathers}

@@ -1,7 +1,7 @@
 use Rattle.std.proofs.Common.{◌∙◌, ap, Ok, Err}
 use Rattle.std.proofs.lemmas.Result.{err_from_is_err_and}
 use Rattle.wh_policy.specs.declared.format.Format.{Format}
-use Rattle.wh_store.specs.Reads.{state_of}
+use Rattle.wh_sql.specs.Answers.{state_of}
 use Rattle.wh_report.specs.Labels.{labels_get}
 use Rattle.wh_report.specs.Reported.{uncounted}
 use Rattle.wh_report.specs.Summary.{Summed}

@@ -18,13 +18,13 @@ returns-clause-unread g c clean =
 pub returns-in-Ok-Some-clause-stored : goal.returns-in-Ok-Some-clause-stored
 returns-in-Ok-Some-clause-stored g c clean stored at =
     let value : to_z w64 (of_z w64 c.in-Ok-Some.row.value) ≡ c.in-Ok-Some.row.value = omega (arith, ints) in
-    let last : IsLastOf meta (rows_named stored c.args.name.now) c.in-Ok-Some.field-0 = rw c.in-Ok.ensures at (c.in-Ok-Some.ensures.stored clean stored at.now) in
+    let last : IsLastOf meta (rows_named stored c.args.name.now) c.in-Ok-Some.field-0 = rw c.in-Ok.ensures at (c.in-Ok-Some.ensures.stored clean stored at) in
     (Some c.in-Ok-Some.row, subst (IsLastOf meta (rows_named stored c.args.name.now)) c.in-Ok-Some.field-0-is last, ap Some value)
 
 pub returns-in-Ok-None-clause-stored : goal.returns-in-Ok-None-clause-stored
 returns-in-Ok-None-clause-stored g c clean stored at =
-    let last : IsLastOf meta (rows_named stored c.args.name.now) c.in-Ok-None.field-0 = rw c.in-Ok.ensures at (c.in-Ok-None.ensures.stored clean stored at.now) in
+    let last : IsLastOf meta (rows_named stored c.args.name.now) c.in-Ok-None.field-0 = rw c.in-Ok.ensures at (c.in-Ok-None.ensures.stored clean stored at) in
     (None, subst (IsLastOf meta (rows_named stored c.args.name.now)) c.in-Ok-None.field-0-is last, refl)
 
 pub returns-clause-damaged : goal.returns-clause-damaged
-returns-clause-damaged g c clean stored at = rw c.in-Ok.ensures at (c.in-Err-get.ensures.damaged clean stored at.now)
+returns-clause-damaged g c clean stored at = rw c.in-Ok.ensures at (c.in-Err-get.ensures.damaged clean stored at)

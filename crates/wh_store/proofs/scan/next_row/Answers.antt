@@ -2,7 +2,7 @@ use Rattle.std.proofs.Common.{rules, ◌≡◌, [], ◌++◌, map, filter, None,
 use Rattle.std.specs.Vec.Iter.{into_iter_items}
 use Rattle.std.specs.FinMap.{values}
 use Rattle.wh_rows.specs.Parts.{is_behind}
-use Rattle.wh_store.specs.Reads.{state_of}
+use Rattle.wh_sql.specs.Answers.{state_of}
 use Rattle.wh_store.specs.Scan.{rows_left, HandsOut, AreLeft}
 use Rattle.wh_store.proofs.Absent.{none_typed, none_there}
 use Rattle.wh_store.proofs.Scanning.{handed, none_handed, none_is, no_items}
@@ -55,7 +55,7 @@ returns-then-not-is_in-clause-next g c = record {
   reads = search rules;
   rows = λ clean t same at.
       let d = g.T.StoredTable in
-      let absent = same ∙ sym c.is_in.ensures ∙ c.if-not-is_in.true in
+      let absent = same ∙ sym (rw c.table.ensures at c.is_in.ensures) ∙ c.if-not-is_in.true in
       let none : c.next.result ≡ None = none_is c.next.result c.in_default.not-Some in
       let lens = rw none at c.next.ensures.cases in
       let cursor = c.args.cursor.now in
@@ -64,7 +64,7 @@ returns-then-not-is_in-clause-next g c = record {
       (no_items _ _ cursor.ahead.rest.ok.0 lens.0) (no_items _ _ c.next.new.self.rest.ok.0 lens.1) (ap (filter (is_behind d.layout cursor.unread.after)) nothing);
   stored = λ clean stored same at.
       let d = g.T.StoredTable in
-      let absent = same ∙ sym c.is_in.ensures ∙ c.if-not-is_in.true in
+      let absent = same ∙ sym (rw c.table.ensures at c.is_in.ensures) ∙ c.if-not-is_in.true in
       let none : c.next.result ≡ None = none_is c.next.result c.in_default.not-Some in
       let lens = rw none at c.next.ensures.cases in
       let cursor = c.args.cursor.now in

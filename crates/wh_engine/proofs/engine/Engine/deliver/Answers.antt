@@ -8,7 +8,7 @@ use Rattle.wh_admission.specs.Admission.{accepted_after_all}
 use Rattle.wh_admission.specs.declared.command.Command.{Command}
 use Rattle.wh_admission.specs.declared.command.Reply.{Reply}
 use Rattle.wh_engine.specs.declared.fault.Fault.{Fault}
-use Rattle.wh_store.specs.Reads.{is_second_taken}
+use Rattle.wh_sql.specs.Answers.{is_second_taken}
 use Rattle.wh_engine.specs.Answered.{IsAgain, IsReady, IsAnswered, IsGoverned, IsFormatted, KeepsNothing, IsNotAccepted, IsWritten}
 use Rattle.wh_engine.specs.Delivered.{answers_to, answer_or_stop, as_called, AcceptNothing, AreLed, EachUntilAccepted, IsLastWritten}
 use Rattle.wh_engine.proofs.Keeping.{keeps_on, keeps_spares, keeps_where}

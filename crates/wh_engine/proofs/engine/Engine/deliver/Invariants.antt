@@ -6,7 +6,7 @@ use Rattle.wh_history.specs.Accepted.{Accepted}
 use Rattle.wh_history.specs.Tables.{Limits}
 use Rattle.wh_admission.specs.Admission.{accepted_after_all}
 use Rattle.wh_rows.specs.Raw.{Stored, RestsOn}
-use Rattle.wh_store.specs.Reads.{is_second_taken}
+use Rattle.wh_sql.specs.Answers.{is_second_taken}
 use Rattle.wh_engine.specs.Answered.{IsAgain, IsReady, IsGoverned, IsFormatted}
 use Rattle.wh_engine.specs.Faults.{TellsTaken}
 use Rattle.wh_engine.specs.Delivered.{answers_to, AcceptNothing, AreLed, EachUntilAccepted, IsLastWritten}

@@ -1,6 +1,6 @@
 use Rattle.std.proofs.Common.{◌∙◌, ap, subst, Ok}
 use Rattle.sqlite.specs.Held.{state}
-use Rattle.wh_store.specs.Reads.{has_tables, has_second}
+use Rattle.wh_sql.specs.Answers.{has_tables, has_second}
 use Rattle.wh_store.specs.Opening.{IsTaken, IsRefusedWith}
 use Rattle.wh_store.specs.Raw.{FormatIs, IsRefusedOn}
 use Rattle.wh_sql.proofs.Worked.{all_of_a_warehouse, second_of_a_warehouse}

@@ -3,7 +3,7 @@ use Rattle.std.specs.Prelude.{Ok}
 use Rattle.std.specs.FinMap.{values}
 use Rattle.wh_rows.specs.Facts.{facts_in}
 use Rattle.wh_rows.specs.Rows as row
-use Rattle.wh_store.specs.Reads.{ReadsOnly, state_of}
+use Rattle.wh_sql.specs.Answers.{ReadsOnly, state_of}
 use Rattle.wh_store.specs.Scan.{rows_left}
 use Rattle.wh_migration.specs.Migrated.{moved_anew}
 use Rattle.wh_plan.specs.Reads.{Tells}

@@ -3,7 +3,7 @@ use Rattle.std.specs.Prelude.{Ok}
 use Rattle.wh_history.specs.Accepted.{member_of}
 use Rattle.wh_history.specs.Laws.{RecordsHaveDays}
 use Rattle.wh_history.specs.Plan.{row_of}
-use Rattle.wh_store.specs.Reads.{ReadsOnly, state_of}
+use Rattle.wh_sql.specs.Answers.{ReadsOnly, state_of}
 use Rattle.wh_plan.specs.Reads.{Finds}
 use Rattle.wh_plan.proofs.PlanRows.{Left}
 use Rattle.wh_plan.proofs.records.record_plan.rows_of_stored.Given as goal

@@ -2,7 +2,7 @@ use Rattle.std.proofs.Common.{◌≡◌, map, take}
 use Rattle.std.specs.Prelude.{Ok}
 use Rattle.wh_history.specs.Accepted.{member_of}
 use Rattle.wh_plan.specs.Reading.{HaveNoEmptyValue}
-use Rattle.wh_store.specs.Reads.{ReadsOnly, state_of}
+use Rattle.wh_sql.specs.Answers.{ReadsOnly, state_of}
 use Rattle.wh_plan.specs.Reads.{Finds}
 use Rattle.wh_plan.proofs.records.record_plan.stored_members.Given as goal
 

@@ -1,6 +1,6 @@
 use Rattle.std.proofs.Common.{◌+◌, ◌≤◌, ◌≡◌, take, drop, subst, subst₂, sym, le_trans, arith}
 use Rattle.std.proofs.lemmas.Grind.{common_steps}
-use Rattle.wh_store.specs.Reads.{state_of}
+use Rattle.wh_sql.specs.Answers.{state_of}
 use Rattle.wh_program.specs.Answer.{status_code}
 use Rattle.wh_program.specs.Room.{longest_answer, longest_reply}
 use Rattle.wh_program.proofs.DeliveryLemmas.{AreSent, IsOut, parted_at, up_to_it, fits_longest, none_sent, all_out, next_done, next_refused, ended_out}

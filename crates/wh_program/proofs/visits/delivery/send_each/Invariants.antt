@@ -1,6 +1,6 @@
 use Rattle.std.proofs.Common.{◌≤◌, take}
 use Rattle.std.specs.Prelude.{vec_capacity}
-use Rattle.wh_store.specs.Reads.{state_of}
+use Rattle.wh_sql.specs.Answers.{state_of}
 use Rattle.wh_program.specs.Room.{longest_reply}
 use Rattle.wh_program.proofs.DeliveryLemmas.{AreSent}
 use Rattle.wh_program.proofs.visits.delivery.send_each.Given as goal

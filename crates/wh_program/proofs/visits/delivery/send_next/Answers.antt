@@ -1,4 +1,4 @@
-use Rattle.wh_store.specs.Reads.{state_of}
+use Rattle.wh_sql.specs.Answers.{state_of}
 use Rattle.wh_program.proofs.LookingLemmas.{kept_so}
 use Rattle.wh_program.proofs.WarehouseLemmas.{replies_over}
 use Rattle.wh_program.proofs.visits.delivery.send_next.Goals as goal

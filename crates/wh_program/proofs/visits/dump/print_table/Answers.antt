@@ -5,7 +5,7 @@ use Rattle.wh_engine.specs.declared.session.Session.{Session}
 use Rattle.wh_program.specs.Answer.{status_code, done}
 use Rattle.wh_report.specs.Dump.{lines_of_table}
 use Rattle.wh_report.specs.Output.{of_warehouse}
-use Rattle.wh_store.specs.Reads.{state_of}
+use Rattle.wh_sql.specs.Answers.{state_of}
 use Rattle.wh_program.proofs.LookingLemmas.{through_looks}
 use Rattle.wh_program.proofs.ReadingLemmas.{left, stopped-dump}
 use Rattle.wh_program.proofs.visits.dump.print_table.Goals as goal

@@ -1,5 +1,5 @@
 use Rattle.std.specs.Prelude.{Option}
-use Rattle.wh_store.specs.Reads.{state_of}
+use Rattle.wh_sql.specs.Answers.{state_of}
 use Rattle.wh_explain.specs.declared.left_out.LeftOut.{LeftOut}
 use Rattle.wh_explain.specs.declared.line.TracedLines.{TracedLines}
 use Rattle.wh_program.proofs.LookingLemmas.{read_looks, then_looks, through_looks}

@@ -1,6 +1,6 @@
 use Rattle.std.proofs.Common.{◌≡◌, ◌≢◌, sym, refl, subst, Ok}
 use Rattle.std.proofs.lemmas.Result.{IfOk-from_err}
-use Rattle.wh_store.specs.Reads.{state_of}
+use Rattle.wh_sql.specs.Answers.{state_of}
 use Rattle.wh_program.specs.ReportsRead.{IsReadFor}
 use Rattle.wh_program.proofs.LookingLemmas.{looks_itself, then_looks}
 use Rattle.wh_program.proofs.ListLemmas.{one_more, all_answered, stopped, untold}

@@ -3,7 +3,7 @@ use Rattle.wh_engine.specs.declared.session.Session.{Session}
 use Rattle.wh_query.specs.Answered.{Answers}
 use Rattle.wh_query.specs.Asked.{in_form, query_reads}
 use Rattle.wh_query.proofs.ReadQueries.{queries_have_readings}
-use Rattle.wh_store.specs.Reads.{state_of}
+use Rattle.wh_sql.specs.Answers.{state_of}
 use Rattle.wh_program.specs.Readings.{queried_under}
 use Rattle.wh_words.specs.Task.{query_words}
 use Rattle.wh_program.proofs.LookingLemmas.{looks_itself, through_looks}

@@ -1,4 +1,4 @@
-use Rattle.wh_store.specs.Reads.{state_of}
+use Rattle.wh_sql.specs.Answers.{state_of}
 use Rattle.wh_program.proofs.LookingLemmas.{read_looks}
 use Rattle.wh_program.proofs.ReadingLemmas.{carried_read}
 use Rattle.wh_program.proofs.visits.records.batch_answer.Goals as goal

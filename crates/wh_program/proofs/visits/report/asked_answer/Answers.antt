@@ -1,6 +1,6 @@
 use Rattle.std.proofs.Common.{◌∙◌, ap, sym}
 use Rattle.wh_engine.specs.declared.session.Session.{Session}
-use Rattle.wh_store.specs.Reads.{state_of}
+use Rattle.wh_sql.specs.Answers.{state_of}
 use Rattle.wh_program.specs.Readings.{asked_under}
 use Rattle.wh_words.specs.Task.{report_words}
 use Rattle.wh_program.proofs.LookingLemmas.{looks_itself, through_looks}

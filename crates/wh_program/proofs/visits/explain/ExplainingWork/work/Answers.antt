@@ -1,4 +1,4 @@
-use Rattle.wh_store.specs.Reads.{state_of}
+use Rattle.wh_sql.specs.Answers.{state_of}
 use Rattle.wh_program.proofs.LookingLemmas.{looked}
 use Rattle.wh_program.proofs.WarehouseLemmas.{explained}
 use Rattle.wh_program.proofs.visits.explain.ExplainingWork.work.Goals as goal

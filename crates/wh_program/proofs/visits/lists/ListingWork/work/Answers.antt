@@ -1,7 +1,7 @@
 use Rattle.std.proofs.Common.{◌≡◌, map, subst}
 use Rattle.std.specs.Prelude.{IfOk}
 use Rattle.std.proofs.lemmas.Result.{IfOk-from_err}
-use Rattle.wh_store.specs.Reads.{state_of}
+use Rattle.wh_sql.specs.Answers.{state_of}
 use Rattle.wh_program.specs.Lists.{whole_answer}
 use Rattle.wh_program.proofs.LookingLemmas.{looked}
 use Rattle.wh_program.proofs.ListLemmas.{list_stands}

@@ -1,4 +1,4 @@
-use Rattle.wh_store.specs.Reads.{state_of}
+use Rattle.wh_sql.specs.Answers.{state_of}
 use Rattle.wh_words.specs.Task.{query_words}
 use Rattle.wh_program.specs.Readings.{query_answered}
 use Rattle.wh_program.proofs.LookingLemmas.{looked}

@@ -1,4 +1,4 @@
-use Rattle.wh_store.specs.Reads.{state_of}
+use Rattle.wh_sql.specs.Answers.{state_of}
 use Rattle.wh_program.specs.Readings.{records_answered}
 use Rattle.wh_program.proofs.LookingLemmas.{looked}
 use Rattle.wh_program.proofs.ReadingLemmas.{answer_stands}

@@ -1,4 +1,4 @@
-use Rattle.wh_store.specs.Reads.{state_of}
+use Rattle.wh_sql.specs.Answers.{state_of}
 use Rattle.wh_words.specs.Task.{report_words}
 use Rattle.wh_program.specs.Readings.{report_answered}
 use Rattle.wh_program.proofs.LookingLemmas.{looked}

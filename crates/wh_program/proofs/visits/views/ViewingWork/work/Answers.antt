@@ -1,5 +1,5 @@
 use Rattle.wh_program.specs.Looking.{Looks}
-use Rattle.wh_store.specs.Reads.{state_of}
+use Rattle.wh_sql.specs.Answers.{state_of}
 use Rattle.wh_program.proofs.LookingLemmas.{looked, looks_itself}
 use Rattle.wh_program.proofs.ViewLemmas.{viewed}
 use Rattle.wh_program.proofs.visits.views.ViewingWork.work.Goals as goal

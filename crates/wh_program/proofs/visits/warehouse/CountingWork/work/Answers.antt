@@ -1,4 +1,4 @@
-use Rattle.wh_store.specs.Reads.{state_of}
+use Rattle.wh_sql.specs.Answers.{state_of}
 use Rattle.wh_program.proofs.LookingLemmas.{looked, read_looks}
 use Rattle.wh_program.proofs.WarehouseLemmas.{counted}
 use Rattle.wh_program.proofs.visits.warehouse.CountingWork.work.Goals as goal

@@ -1,6 +1,6 @@
 use Rattle.std.proofs.Common.{◌≤◌}
 use Rattle.std.specs.Prelude.{vec_capacity}
-use Rattle.wh_store.specs.Reads.{state_of}
+use Rattle.wh_sql.specs.Answers.{state_of}
 use Rattle.wh_program.specs.Reply.{sent_answer}
 use Rattle.wh_program.specs.Room.{longest_answer}
 use Rattle.wh_program.proofs.RoomLemmas.{printed_in}
