@@ -8,16 +8,15 @@
 //! `missed TABLE COLUMN COLUMN ..` makes the table by hand without each column in turn, and with all of them, and opens the
 //! warehouse. The answers are how often there was no warehouse, and what it is with all of them.
 
-use crate::held::Reads;
 use crate::opening::{changed, found, opened, run};
 use crate::rows::{on_table, push_number_line};
 use crate::trouble::Trouble;
-use crate::words::{Step, push_answer};
+use crate::words::{Step, push_answer, step_of};
 use sqlite::{Alter, Connection};
 use std::alloc::{AllocError, Global};
 use wh_rows::Table;
 use wh_scenarios::parted;
-use wh_store::OpenFault;
+use wh_store::{OpenFault, Tables};
 
 /// The values of each kind.
 const KINDS: &str = "
@@ -203,14 +202,13 @@ fn is_read<S: Alter + Drop>(
 }
 
 /// Whether the only row of a table is read, and not found to be damaged.
-fn is_whole<H: Reads>(alloc: Global, held: &mut H, table: Table) -> Result<bool, Trouble> {
+fn is_whole<S: Alter>(
+    alloc: Global,
+    tables: &mut Tables<S>,
+    table: Table,
+) -> Result<bool, Trouble> {
     let mut answer = String::new(alloc);
-    let step = Step {
-        verb: "length",
-        rest: "",
-        body: "",
-    };
-    match on_table(alloc, held, table, step, &mut answer) {
+    match on_table(alloc, tables, table, step_of("length"), &mut answer) {
         Ok(()) if answer.as_str() == "1\n" => Ok(true),
         Err(Trouble::Damaged(found)) if found == table => Ok(false),
         Ok(()) => Err(Trouble::Unknown),

@@ -1,19 +1,19 @@
-//! Steps on a database in memory, by SQL and by the calls that run one statement.
+//! Steps on a database in memory, which may be no warehouse: by SQL, and by the calls of its tables.
 
-use crate::held::Writes;
 use crate::questions::answer;
-use crate::rows::{clear, columns_of, edit_table, push_number_line, rekey};
+use crate::rows::{columns_of, push_number_line};
 use crate::trouble::Trouble;
 use crate::words::{Step, push_answer, push_number};
-use crate::writing::put_past;
+use crate::writing::edit_alone;
 use sqlite::{Alter, Connection};
 use std::alloc::Global;
-use wh_policy::Format;
-use wh_rows::Cause;
-use wh_sql::{create_tables, has_tables, is_any_taken};
+use wh_day::Value;
+use wh_rows::tables::Meta;
+use wh_sql::{has_tables, is_any_taken};
+use wh_store::{Limits, Tables, Writing};
 
-/// A step on a database.
-pub fn on_database<S: Alter>(
+/// A step on the connection.
+pub fn on_connection<S: Alter>(
     alloc: Global,
     conn: &mut Connection<S>,
     step: Step<'_>,
@@ -23,14 +23,42 @@ pub fn on_database<S: Alter>(
         "sql" => Ok(conn.execute_batch(step.rest)?),
         "bound" => run_bound(alloc, conn, step, out),
         "number" => number(conn, step.rest, out),
-        "create" => Ok(create_tables(conn)?),
         "status" => status(conn, out),
-        "past" => put_past(alloc, conn, out),
-        "rekey" => rekey(alloc, conn, Format::One, step.rest),
-        "clear" => clear(conn, out),
-        "put" | "row" | "remove" => edit_table(alloc, conn, step),
-        _ => answer(alloc, conn, step, out),
+        _ => Err(Trouble::Unknown),
     }
+}
+
+/// A step on the tables over the connection, whatever they hold. What is written is written in a transaction of the step's own.
+pub fn on_any_tables<S: Alter>(
+    alloc: Global,
+    tables: &mut Tables<S>,
+    step: Step<'_>,
+    out: &mut String,
+) -> Result<(), Trouble> {
+    match step.verb {
+        "create" => create(alloc, tables),
+        "put" | "row" | "remove" | "past" | "rekey" | "clear" => {
+            edit_alone(alloc, tables, step, out)
+        }
+        _ => answer(alloc, tables, step, out),
+    }
+}
+
+/// Makes the ten tables, with no row in them.
+fn create<S: Alter>(alloc: Global, tables: &mut Tables<S>) -> Result<(), Trouble> {
+    let mut writing = tables.begin()?;
+    writing.init(alloc, Limits::greatest())?;
+    clear_meta(alloc, &mut writing)?;
+    writing.commit()?;
+    Ok(())
+}
+
+/// Takes out the rows of meta that a new warehouse has.
+fn clear_meta<S: Alter>(alloc: Global, writing: &mut Writing<'_, S>) -> Result<(), Trouble> {
+    for name in ["changes_max", "commands_max", "facts_max", "format"] {
+        writing.remove::<Meta>(alloc, &Value::new(alloc, name)?)?;
+    }
+    Ok(())
 }
 
 /// The number that a query answers.

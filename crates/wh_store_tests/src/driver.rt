@@ -13,10 +13,12 @@
 //!
 //! On a database:
 //! - `sql SQL` runs it, `bound SQL` runs it with the values that it is handed as its parameters, `number SQL` tells the number that it answers.
-//! - `create` makes the ten tables. `status` tells whether they are there, and whether a transaction is under way.
+//! - `status` tells whether the ten tables are there, and whether a transaction is under way.
+//! - `create` makes the ten tables, with no row in them.
 //! - `put ROW`, `remove TABLE KEY`; `row TABLE KEY TEXT` puts the only row of a member, and `past` a row whose key is too big;
 //!   `rekey TICKET LINE STORE PRODUCT CUSTOMER PROFILE` gives a fact these keys; `clear` takes out all facts of the first format, and
 //!   tells how many there were.
+//! - `create` and each of these edits begins a transaction of its own and keeps it, or leaves nothing where it is refused.
 //! - `make` and `open` take it for a new warehouse, and for one that is there. A warehouse is handed back by `close`.
 //!
 //! On a warehouse:

@@ -7,13 +7,12 @@ use crate::opening::{found, free, make_tables};
 use crate::second::upgrade_all;
 use crate::tables::{on_tables, show};
 use crate::trouble::Trouble;
-use crate::words::{Step, push_answer};
+use crate::words::{Step, push_answer, step_of};
 use crate::writing::write;
 use sqlite::{Alter, Connection, Files, Options, Unknown};
 use sqlite_disk::{Crash, Disk, Fuse, Memory};
 use std::alloc::Global;
 use std::fs;
-use wh_scenarios::parted;
 use wh_store::{OpenFault, into_files, open_path, restart};
 
 /// A log and a database file in memory, which stop after so many calls.
@@ -173,13 +172,7 @@ fn ask_all<S: Alter>(
     out: &mut String,
 ) -> Answer {
     for line in questions.lines() {
-        let (verb, rest) = parted(line.trim_start(), ' ');
-        let step = Step {
-            verb,
-            rest,
-            body: "",
-        };
-        on_tables(alloc, held, step, out)?;
+        on_tables(alloc, held, step_of(line.trim_start()), out)?;
     }
     Ok(())
 }

@@ -7,7 +7,7 @@ use sqlite::{Alter, Connection, MemStore};
 use std::alloc::Global;
 use wh_rows::Cause;
 use wh_scenarios::parted;
-use wh_store::{Format, Limits, NotFree, OpenFault, Tables};
+use wh_store::{Format, Limits, NotFree, OpenFault, Tables, for_init, open};
 
 /// `COMMANDS CHANGES FACTS`: these limits.
 pub fn limits_of(words: &str) -> Result<Limits, Trouble> {
@@ -49,7 +49,7 @@ pub fn run<S: Alter + Drop>(mut conn: Connection<S>, text: &str) -> Result<Conne
 pub fn free<S: Alter + Drop>(
     conn: Connection<S>,
 ) -> Result<Warehouse<S>, (NotFree, Connection<S>)> {
-    match Tables::for_init(conn) {
+    match for_init(conn) {
         Ok(tables) => Ok(Warehouse {
             tables,
             format: Format::One,
@@ -63,7 +63,7 @@ pub fn found<S: Alter + Drop>(
     alloc: Global,
     conn: Connection<S>,
 ) -> Result<Warehouse<S>, (OpenFault, Connection<S>)> {
-    match Tables::open(alloc, conn, Format::Two) {
+    match open(alloc, conn, Format::Two) {
         Ok((tables, format)) => Ok(Warehouse { tables, format }),
         Err(refused) => Err(refused),
     }

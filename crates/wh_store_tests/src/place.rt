@@ -1,7 +1,7 @@
 //! Where a scenario stands, and its steps.
 
 use crate::columns::{columns, missed};
-use crate::database::on_database;
+use crate::database::{on_any_tables, on_connection};
 use crate::files::{Disks, blank, run_step, show_copy, stops};
 use crate::held::Warehouse;
 use crate::opening::{self, changed, database, free, limits_of, warehouse};
@@ -10,7 +10,7 @@ use crate::trouble::Trouble;
 use crate::words::{Step, push_answer, push_trouble};
 use sqlite::{Connection, MemStore};
 use std::alloc::{AllocError, Global};
-use wh_store::Limits;
+use wh_store::{Limits, Tables};
 
 /// What the next step works on.
 #[derive(Drop)]
@@ -148,9 +148,14 @@ fn from_database(
     match step.verb {
         "make" => make(conn, out),
         "open" => open(alloc, conn, out),
-        _ => {
-            let answer = on_database(alloc, &mut conn, step, out);
+        "sql" | "bound" | "number" | "status" => {
+            let answer = on_connection(alloc, &mut conn, step, out);
             (Place::Database(conn), answer)
+        }
+        _ => {
+            let mut tables = Tables::over(conn);
+            let answer = on_any_tables(alloc, &mut tables, step, out);
+            (Place::Database(tables.close()), answer)
         }
     }
 }

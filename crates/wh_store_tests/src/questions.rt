@@ -1,11 +1,11 @@
 //! Questions about the rows of a warehouse.
 
-use crate::held::Reads;
 use crate::rows::{on_table, push_number_line, push_rows, table_of};
 use crate::sales::sales;
 use crate::shown::Shown;
 use crate::trouble::Trouble;
 use crate::words::{Step, dim, number, push_answer};
+use sqlite::Alter;
 use std::alloc::{AllocError, Global};
 use wh_day::{Value, Values};
 use wh_policy::Dim;
@@ -15,59 +15,59 @@ use wh_scenarios::parted;
 use wh_sql::{
     CommandOf, Dimension, Greatest, GreatestOf, MemberOf, ProfileOf, Question, RecordsOf, RowsOf,
 };
-use wh_store::Format;
+use wh_store::{Format, Tables};
 
 /// A step that only reads.
-pub fn answer<H: Reads>(
+pub fn answer<S: Alter>(
     alloc: Global,
-    held: &mut H,
+    tables: &mut Tables<S>,
     step: Step<'_>,
     out: &mut String,
 ) -> Result<(), Trouble> {
     match step.verb {
         "all" | "get" | "count" | "length" | "nth" | "read" | "table" => {
             let (table, step) = table_of(step)?;
-            on_table(alloc, held, table, step, out)
+            on_table(alloc, tables, table, step, out)
         }
-        "rows" => rows(alloc, held, step.rest, out),
+        "rows" => rows(alloc, tables, step.rest, out),
         "dim" => Ok(push_answer(out, dim_of(step.rest)?)?),
-        "greatest" => greatest(alloc, held, step.rest, out),
-        "anchor" => anchor(alloc, held, step.rest, out),
-        _ => answer_more(alloc, held, step, out),
+        "greatest" => greatest(alloc, tables, step.rest, out),
+        "anchor" => anchor(alloc, tables, step.rest, out),
+        _ => answer_more(alloc, tables, step, out),
     }
 }
 
-fn answer_more<H: Reads>(
+fn answer_more<S: Alter>(
     alloc: Global,
-    held: &mut H,
+    tables: &mut Tables<S>,
     step: Step<'_>,
     out: &mut String,
 ) -> Result<(), Trouble> {
     match step.verb {
-        "command" => command(alloc, held, step.rest, out),
-        "member" => member(alloc, held, step.rest, out),
-        "profile" => profile(alloc, held, step.rest, out),
-        "records" => records(alloc, held, step.rest, out),
-        "sales" => sales(alloc, held, Format::One, step.rest, out),
-        "sales2" => sales(alloc, held, Format::Two, step.rest, out),
+        "command" => command(alloc, tables, step.rest, out),
+        "member" => member(alloc, tables, step.rest, out),
+        "profile" => profile(alloc, tables, step.rest, out),
+        "records" => records(alloc, tables, step.rest, out),
+        "sales" => sales(alloc, tables, Format::One, step.rest, out),
+        "sales2" => sales(alloc, tables, Format::Two, step.rest, out),
         _ => Err(Trouble::Unknown),
     }
 }
 
-fn asked<T: Shown, Q: Question<T>, H: Reads>(
+fn asked<T: Shown, Q: Question<T>, S: Alter>(
     alloc: Global,
-    held: &mut H,
+    tables: &mut Tables<S>,
     question: &Q,
     out: &mut String,
 ) -> Result<(), Trouble> {
-    let rows = held.answer::<T, Q>(alloc, question)?;
+    let rows = tables.ask::<T, Q>(alloc, question)?;
     push_rows::<T>(out, &rows)
 }
 
 /// `DIMENSION DURABLE`: the rows of a member.
-fn rows<H: Reads>(
+fn rows<S: Alter>(
     alloc: Global,
-    held: &mut H,
+    tables: &mut Tables<S>,
     words: &str,
     out: &mut String,
 ) -> Result<(), Trouble> {
@@ -76,9 +76,9 @@ fn rows<H: Reads>(
         durable: number(durable)?,
     };
     match dim(name)? {
-        Dim::Product => asked::<Product, RowsOf, H>(alloc, held, &question, out),
-        Dim::Store => asked::<Store, RowsOf, H>(alloc, held, &question, out),
-        Dim::Customer => asked::<Customer, RowsOf, H>(alloc, held, &question, out),
+        Dim::Product => asked::<Product, RowsOf, S>(alloc, tables, &question, out),
+        Dim::Store => asked::<Store, RowsOf, S>(alloc, tables, &question, out),
+        Dim::Customer => asked::<Customer, RowsOf, S>(alloc, tables, &question, out),
     }
 }
 
@@ -97,56 +97,56 @@ fn dim_of(name: &str) -> Result<&'static str, Trouble> {
 }
 
 /// `profile`, or `member DIMENSION`: the row with the greatest key.
-fn greatest<H: Reads>(
+fn greatest<S: Alter>(
     alloc: Global,
-    held: &mut H,
+    tables: &mut Tables<S>,
     words: &str,
     out: &mut String,
 ) -> Result<(), Trouble> {
     let (name, rest) = parted(words, ' ');
     match Table::from_name(name) {
-        Some(Table::Profile) => asked::<Profile, Greatest, H>(alloc, held, &Greatest, out),
-        Some(Table::Member) => greatest_member(alloc, held, rest, out),
+        Some(Table::Profile) => asked::<Profile, Greatest, S>(alloc, tables, &Greatest, out),
+        Some(Table::Member) => greatest_member(alloc, tables, rest, out),
         _ => Err(Trouble::Unknown),
     }
 }
 
-fn greatest_member<H: Reads>(
+fn greatest_member<S: Alter>(
     alloc: Global,
-    held: &mut H,
+    tables: &mut Tables<S>,
     word: &str,
     out: &mut String,
 ) -> Result<(), Trouble> {
     let question = GreatestOf { dim: dim(word)? };
-    asked::<Member, GreatestOf, H>(alloc, held, &question, out)
+    asked::<Member, GreatestOf, S>(alloc, tables, &question, out)
 }
 
 /// `DIMENSION`: the greatest surrogate key that a record of it stands at, or 0.
-fn anchor<H: Reads>(
+fn anchor<S: Alter>(
     alloc: Global,
-    held: &mut H,
+    tables: &mut Tables<S>,
     word: &str,
     out: &mut String,
 ) -> Result<(), Trouble> {
-    let key = held.anchor(alloc, dim(word)?)?;
+    let key = tables.greatest_anchor(alloc, dim(word)?)?;
     push_number_line(out, key)
 }
 
 /// `ID`: the command of that id.
-fn command<H: Reads>(
+fn command<S: Alter>(
     alloc: Global,
-    held: &mut H,
+    tables: &mut Tables<S>,
     id: &str,
     out: &mut String,
 ) -> Result<(), Trouble> {
     let id = Value::new(alloc, id)?;
-    asked::<Command, CommandOf<'_>, H>(alloc, held, &CommandOf { id: &id }, out)
+    asked::<Command, CommandOf<'_>, S>(alloc, tables, &CommandOf { id: &id }, out)
 }
 
 /// `DIMENSION NATURAL`: the member that is called so.
-fn member<H: Reads>(
+fn member<S: Alter>(
     alloc: Global,
-    held: &mut H,
+    tables: &mut Tables<S>,
     words: &str,
     out: &mut String,
 ) -> Result<(), Trouble> {
@@ -156,7 +156,7 @@ fn member<H: Reads>(
         dim: dim(name)?,
         natural: &natural,
     };
-    asked::<Member, MemberOf<'_>, H>(alloc, held, &question, out)
+    asked::<Member, MemberOf<'_>, S>(alloc, tables, &question, out)
 }
 
 /// Texts that are parted by commas.
@@ -169,20 +169,20 @@ fn values(alloc: Global, line: &str) -> Result<Values, AllocError> {
 }
 
 /// `TEXT,TEXT,..`: the profile of these six texts.
-fn profile<H: Reads>(
+fn profile<S: Alter>(
     alloc: Global,
-    held: &mut H,
+    tables: &mut Tables<S>,
     line: &str,
     out: &mut String,
 ) -> Result<(), Trouble> {
     let values = values(alloc, line)?;
-    asked::<Profile, ProfileOf<'_>, H>(alloc, held, &ProfileOf { values: &values }, out)
+    asked::<Profile, ProfileOf<'_>, S>(alloc, tables, &ProfileOf { values: &values }, out)
 }
 
 /// `DIMENSION DURABLE`: the records of a member.
-fn records<H: Reads>(
+fn records<S: Alter>(
     alloc: Global,
-    held: &mut H,
+    tables: &mut Tables<S>,
     words: &str,
     out: &mut String,
 ) -> Result<(), Trouble> {
@@ -191,5 +191,5 @@ fn records<H: Reads>(
         dim: dim(name)?,
         durable: number(durable)?,
     };
-    asked::<Change, RecordsOf, H>(alloc, held, &question, out)
+    asked::<Change, RecordsOf, S>(alloc, tables, &question, out)
 }

@@ -1,11 +1,10 @@
 //! Rows as a scenario writes them, `product 1, 1, 'M1', ..` for the values of SQL, and as its answers write them, below the names of their
 //! columns.
 
-use crate::held::{Reads, Writes};
 use crate::shown::Shown;
 use crate::trouble::Trouble;
 use crate::words::{Step, line_number, number, push_answer, push_count};
-use sqlite::{Connection, Row};
+use sqlite::{Alter, Connection, Row};
 use std::alloc::{AllocError, Global};
 use wh_day::{ParseError, Value};
 use wh_history::FactKeys;
@@ -15,6 +14,7 @@ use wh_rows::tables::{
 };
 use wh_rows::{Cause, LineKey, Table};
 use wh_scenarios::parted;
+use wh_store::{Tables, Writing};
 
 /// The columns of these values.
 pub fn columns_of(alloc: Global, values: &str) -> Result<Row, Trouble> {
@@ -84,44 +84,48 @@ pub fn push_number_line(out: &mut String, count: u64) -> Result<(), Trouble> {
     Ok(())
 }
 
-fn all<T: Shown, H: Reads>(alloc: Global, held: &mut H, out: &mut String) -> Result<(), Trouble> {
-    let rows = held.read_all::<T>(alloc)?;
+fn all<T: Shown, S: Alter>(
+    alloc: Global,
+    tables: &mut Tables<S>,
+    out: &mut String,
+) -> Result<(), Trouble> {
+    let rows = tables.all::<T>(alloc)?;
     push_rows::<T>(out, &rows)
 }
 
-fn nth<T: Shown, H: Reads>(
+fn nth<T: Shown, S: Alter>(
     alloc: Global,
-    held: &mut H,
+    tables: &mut Tables<S>,
     place: &str,
     out: &mut String,
 ) -> Result<(), Trouble> {
     let at = number(place)?;
-    let rows = held.read_all::<T>(alloc)?;
+    let rows = tables.all::<T>(alloc)?;
     match rows.get(at as usize) {
         Some(row) => push_row::<T>(out, row),
         None => Ok(()),
     }
 }
 
-fn at<T: Shown, H: Reads>(
+fn at<T: Shown, S: Alter>(
     alloc: Global,
-    held: &mut H,
+    tables: &mut Tables<S>,
     words: &str,
     out: &mut String,
 ) -> Result<(), Trouble> {
     let key = T::key_of(alloc, words)?;
-    match held.read_at::<T>(alloc, &key)? {
+    match tables.get::<T>(alloc, &key)? {
         Some(row) => push_row::<T>(out, &row),
         None => Ok(()),
     }
 }
 
-fn length<T: Shown, H: Reads>(
+fn length<T: Shown, S: Alter>(
     alloc: Global,
-    held: &mut H,
+    tables: &mut Tables<S>,
     out: &mut String,
 ) -> Result<(), Trouble> {
-    let rows = held.read_all::<T>(alloc)?;
+    let rows = tables.all::<T>(alloc)?;
     push_number_line(out, rows.len() as u64)
 }
 
@@ -130,18 +134,18 @@ fn read<T: Shown>(alloc: Global, values: &str, out: &mut String) -> Result<(), T
     push_row::<T>(out, &row)
 }
 
-fn on_rows<T: Shown, H: Reads>(
+fn on_rows<T: Shown, S: Alter>(
     alloc: Global,
-    held: &mut H,
+    tables: &mut Tables<S>,
     step: Step<'_>,
     out: &mut String,
 ) -> Result<(), Trouble> {
     match step.verb {
-        "all" => all::<T, H>(alloc, held, out),
-        "get" => at::<T, H>(alloc, held, step.rest, out),
-        "count" => push_number_line(out, held.count_rows::<T>(alloc)?),
-        "length" => length::<T, H>(alloc, held, out),
-        "nth" => nth::<T, H>(alloc, held, step.rest, out),
+        "all" => all::<T, S>(alloc, tables, out),
+        "get" => at::<T, S>(alloc, tables, step.rest, out),
+        "count" => push_number_line(out, tables.count::<T>(alloc)?),
+        "length" => length::<T, S>(alloc, tables, out),
+        "nth" => nth::<T, S>(alloc, tables, step.rest, out),
         "read" => read::<T>(alloc, step.rest, out),
         "table" => Ok(push_answer(out, T::table().name())?),
         _ => Err(Trouble::Unknown),
@@ -149,26 +153,26 @@ fn on_rows<T: Shown, H: Reads>(
 }
 
 /// A step that reads rows of a table.
-pub fn on_table<H: Reads>(
+pub fn on_table<S: Alter>(
     alloc: Global,
-    held: &mut H,
+    tables: &mut Tables<S>,
     table: Table,
     step: Step<'_>,
     out: &mut String,
 ) -> Result<(), Trouble> {
     match table {
-        Table::Meta => on_rows::<Meta, H>(alloc, held, step, out),
-        Table::Command => on_rows::<Command, H>(alloc, held, step, out),
-        Table::Member => on_rows::<Member, H>(alloc, held, step, out),
-        Table::Change => on_rows::<Change, H>(alloc, held, step, out),
-        Table::Product => on_rows::<Product, H>(alloc, held, step, out),
-        Table::Store => on_rows::<Store, H>(alloc, held, step, out),
-        Table::Customer => on_rows::<Customer, H>(alloc, held, step, out),
-        Table::Profile => on_rows::<Profile, H>(alloc, held, step, out),
-        Table::Calendar => on_rows::<Calendar, H>(alloc, held, step, out),
-        Table::Fact => on_rows::<Fact, H>(alloc, held, step, out),
-        Table::Fact2 => on_rows::<Fact2, H>(alloc, held, step, out),
-        Table::Void => on_rows::<Void, H>(alloc, held, step, out),
+        Table::Meta => on_rows::<Meta, S>(alloc, tables, step, out),
+        Table::Command => on_rows::<Command, S>(alloc, tables, step, out),
+        Table::Member => on_rows::<Member, S>(alloc, tables, step, out),
+        Table::Change => on_rows::<Change, S>(alloc, tables, step, out),
+        Table::Product => on_rows::<Product, S>(alloc, tables, step, out),
+        Table::Store => on_rows::<Store, S>(alloc, tables, step, out),
+        Table::Customer => on_rows::<Customer, S>(alloc, tables, step, out),
+        Table::Profile => on_rows::<Profile, S>(alloc, tables, step, out),
+        Table::Calendar => on_rows::<Calendar, S>(alloc, tables, step, out),
+        Table::Fact => on_rows::<Fact, S>(alloc, tables, step, out),
+        Table::Fact2 => on_rows::<Fact2, S>(alloc, tables, step, out),
+        Table::Void => on_rows::<Void, S>(alloc, tables, step, out),
     }
 }
 
@@ -181,61 +185,73 @@ pub fn table_of(step: Step<'_>) -> Result<(Table, Step<'_>), Trouble> {
     }
 }
 
-fn put<T: Shown, W: Writes>(alloc: Global, writes: &mut W, values: &str) -> Result<(), Trouble> {
+fn put<T: Shown, S: Alter>(
+    alloc: Global,
+    writing: &mut Writing<'_, S>,
+    values: &str,
+) -> Result<(), Trouble> {
     let row = row_of::<T>(alloc, values)?;
-    Ok(writes.put_row::<T>(alloc, &row)?)
+    Ok(writing.put::<T>(alloc, &row)?)
 }
 
-fn put_member<T: Shown, W: Writes>(
+fn put_member<T: Shown, S: Alter>(
     alloc: Global,
-    writes: &mut W,
+    writing: &mut Writing<'_, S>,
     words: &str,
 ) -> Result<(), Trouble> {
     let values = member_values(alloc, words)?;
-    put::<T, W>(alloc, writes, values.as_str())
+    put::<T, S>(alloc, writing, values.as_str())
 }
 
-fn remove<T: Shown, W: Writes>(alloc: Global, writes: &mut W, words: &str) -> Result<(), Trouble> {
-    let key = T::key_of(alloc, words)?;
-    Ok(writes.remove_row::<T>(alloc, &key)?)
-}
-
-fn edit_rows<T: Shown, W: Writes>(
+fn remove<T: Shown, S: Alter>(
     alloc: Global,
-    writes: &mut W,
+    writing: &mut Writing<'_, S>,
+    words: &str,
+) -> Result<(), Trouble> {
+    let key = T::key_of(alloc, words)?;
+    Ok(writing.remove::<T>(alloc, &key)?)
+}
+
+fn edit_rows<T: Shown, S: Alter>(
+    alloc: Global,
+    writing: &mut Writing<'_, S>,
     step: Step<'_>,
 ) -> Result<(), Trouble> {
     match step.verb {
-        "put" => put::<T, W>(alloc, writes, step.rest),
-        "row" => put_member::<T, W>(alloc, writes, step.rest),
-        "remove" => remove::<T, W>(alloc, writes, step.rest),
+        "put" => put::<T, S>(alloc, writing, step.rest),
+        "row" => put_member::<T, S>(alloc, writing, step.rest),
+        "remove" => remove::<T, S>(alloc, writing, step.rest),
         _ => Err(Trouble::Unknown),
     }
 }
 
 /// A step that writes a row of a table.
-pub fn edit_table<W: Writes>(alloc: Global, writes: &mut W, step: Step<'_>) -> Result<(), Trouble> {
+pub fn edit_table<S: Alter>(
+    alloc: Global,
+    writing: &mut Writing<'_, S>,
+    step: Step<'_>,
+) -> Result<(), Trouble> {
     let (table, step) = table_of(step)?;
     match table {
-        Table::Meta => edit_rows::<Meta, W>(alloc, writes, step),
-        Table::Command => edit_rows::<Command, W>(alloc, writes, step),
-        Table::Member => edit_rows::<Member, W>(alloc, writes, step),
-        Table::Change => edit_rows::<Change, W>(alloc, writes, step),
-        Table::Product => edit_rows::<Product, W>(alloc, writes, step),
-        Table::Store => edit_rows::<Store, W>(alloc, writes, step),
-        Table::Customer => edit_rows::<Customer, W>(alloc, writes, step),
-        Table::Profile => edit_rows::<Profile, W>(alloc, writes, step),
-        Table::Calendar => edit_rows::<Calendar, W>(alloc, writes, step),
-        Table::Fact => edit_rows::<Fact, W>(alloc, writes, step),
-        Table::Fact2 => edit_rows::<Fact2, W>(alloc, writes, step),
-        Table::Void => edit_rows::<Void, W>(alloc, writes, step),
+        Table::Meta => edit_rows::<Meta, S>(alloc, writing, step),
+        Table::Command => edit_rows::<Command, S>(alloc, writing, step),
+        Table::Member => edit_rows::<Member, S>(alloc, writing, step),
+        Table::Change => edit_rows::<Change, S>(alloc, writing, step),
+        Table::Product => edit_rows::<Product, S>(alloc, writing, step),
+        Table::Store => edit_rows::<Store, S>(alloc, writing, step),
+        Table::Customer => edit_rows::<Customer, S>(alloc, writing, step),
+        Table::Profile => edit_rows::<Profile, S>(alloc, writing, step),
+        Table::Calendar => edit_rows::<Calendar, S>(alloc, writing, step),
+        Table::Fact => edit_rows::<Fact, S>(alloc, writing, step),
+        Table::Fact2 => edit_rows::<Fact2, S>(alloc, writing, step),
+        Table::Void => edit_rows::<Void, S>(alloc, writing, step),
     }
 }
 
 /// `TICKET LINE STORE PRODUCT CUSTOMER PROFILE`: gives a fact of a format these keys.
-pub fn rekey<W: Writes>(
+pub fn rekey<S: Alter>(
     alloc: Global,
-    writes: &mut W,
+    writing: &mut Writing<'_, S>,
     format: Format,
     words: &str,
 ) -> Result<(), Trouble> {
@@ -246,12 +262,12 @@ pub fn rekey<W: Writes>(
         line: line_number(line)?,
     };
     let keys = fact_keys(words)?;
-    Ok(writes.rekey_fact(alloc, format, &line, &keys)?)
+    Ok(writing.rekey_fact(alloc, format, &line, &keys)?)
 }
 
 /// Takes out all facts of the first format, and tells how many there were.
-pub fn clear<W: Writes>(writes: &mut W, out: &mut String) -> Result<(), Trouble> {
-    push_number_line(out, writes.clear_facts()?)
+pub fn clear<S: Alter>(writing: &mut Writing<'_, S>, out: &mut String) -> Result<(), Trouble> {
+    push_number_line(out, writing.clear_facts()?)
 }
 
 fn fact_keys(words: &str) -> Result<FactKeys, Trouble> {

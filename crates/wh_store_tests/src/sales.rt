@@ -4,13 +4,13 @@ ghost use Rattle.std.specs.Prelude.{◌≡◌, ◌==◌, nat_le, ◌&&◌};
 ghost use Rattle.std.specs.List.{list_any};
 
 use crate::facts::push_facts;
-use crate::held::Reads;
 use crate::trouble::Trouble;
 use crate::words::{day, dim, number};
+use sqlite::Alter;
 use std::alloc::Global;
 use wh_day::Day;
 use wh_scenarios::parted;
-use wh_store::{Format, SomeMembers};
+use wh_store::{Format, SomeMembers, Tables};
 
 /// A member with its first day and its last.
 #[derive(Clone, Copy)]
@@ -69,9 +69,9 @@ fn members_days(alloc: Global, words: &str) -> Result<MembersDays, Trouble> {
 
 /// `DIMENSION DURABLE FROM TO, DURABLE FROM TO, ..`: the facts of members, of each from one day to another, as one pass finds them that begins with the
 /// first day of the first member.
-pub fn sales<H: Reads>(
+pub fn sales<S: Alter>(
     alloc: Global,
-    held: &mut H,
+    tables: &mut Tables<S>,
     format: Format,
     words: &str,
     out: &mut String,
@@ -81,6 +81,6 @@ pub fn sales<H: Reads>(
     let Some(first) = members.list.first() else {
         return Err(Trouble::Unknown);
     };
-    let facts = held.sales(alloc, format, dim(name)?, &members, first.from)?;
+    let facts = tables.facts_of_members(alloc, format, dim(name)?, &members, first.from)?;
     push_facts(out, format, &facts)
 }

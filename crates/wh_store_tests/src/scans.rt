@@ -55,7 +55,7 @@ fn scan<T: Shown + PagedTable, S: Alter>(
 ) -> Result<(), Trouble> {
     let most = number(words)?;
     let mut handed = Vec::new(alloc);
-    let mut scan = held.tables.scan::<T>(alloc, held.format);
+    let mut scan = Scan::new(&mut held.tables, alloc, held.format);
     let answer = hand_out::<T, S>(alloc, &mut scan, most, &mut handed);
     push_number_line(out, handed.len() as u64)?;
     push_last::<T>(out, &handed)?;

@@ -7,11 +7,11 @@ use crate::rows::on_table;
 use crate::scans::scan_table;
 use crate::second::{tally, upgrade_all};
 use crate::trouble::Trouble;
-use crate::words::{Step, push_answer, push_counts};
+use crate::words::{Step, push_answer, push_counts, step_of};
 use crate::writing::write;
 use sqlite::Alter;
 use std::alloc::Global;
-use wh_store::{Format, Limits, Table, Tables};
+use wh_store::{Format, Limits, Table, Tables, find_limits};
 
 /// A step on the tables of a warehouse.
 pub fn on_tables<S: Alter>(
@@ -64,7 +64,7 @@ fn limits<S: Alter>(
     tables: &mut Tables<S>,
     out: &mut String,
 ) -> Result<(), Trouble> {
-    let limits = tables.limits(alloc)?;
+    let limits = find_limits(tables, alloc)?;
     push_limits(out, limits)
 }
 
@@ -91,11 +91,7 @@ pub fn show<S: Alter>(
     out: &mut String,
 ) -> Result<(), Trouble> {
     limits(alloc, &mut held.tables, out)?;
-    let step = Step {
-        verb: "all",
-        rest: "",
-        body: "",
-    };
+    let step = step_of("all");
     for table in Table::ALL {
         if is_there(table, held.format) {
             on_table(alloc, &mut held.tables, table, step, out)?;

@@ -6,7 +6,7 @@ use std::alloc::AllocError;
 use std::fmt::Write;
 use wh_day::{Day, Values};
 use wh_policy::Dim;
-use wh_scenarios::push_line;
+use wh_scenarios::{parted, push_line};
 
 /// A step: its verb, what is after it on the line, and the lines that it is handed.
 #[derive(Clone, Copy)]
@@ -14,6 +14,16 @@ pub struct Step<'a> {
     pub verb: &'a str,
     pub rest: &'a str,
     pub body: &'a str,
+}
+
+/// A step of one line, which is handed nothing.
+pub fn step_of(line: &str) -> Step<'_> {
+    let (verb, rest) = parted(line, ' ');
+    Step {
+        verb,
+        rest,
+        body: "",
+    }
 }
 
 pub fn number(word: &str) -> Result<u64, Trouble> {

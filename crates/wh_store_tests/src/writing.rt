@@ -2,13 +2,12 @@
 
 use crate::calendar::put_days;
 use crate::facts::edit as edit_fact;
-use crate::held::Writes;
 use crate::opening::limits_of;
 use crate::parts::{edit_products, put_records};
 use crate::rows::{clear, edit_table, member_values, rekey, row_of};
 use crate::second::insert;
 use crate::trouble::Trouble;
-use crate::words::{Step, number, push_count, push_trouble};
+use crate::words::{Step, number, push_count, push_trouble, step_of};
 use sqlite::Alter;
 use std::alloc::Global;
 use wh_history::{DimRow, Edit};
@@ -27,6 +26,19 @@ pub fn write<S: Alter>(
     edit_all(alloc, &mut writing, edits, out)?;
     push_writes(out, writing.writes())?;
     end(writing, edits)
+}
+
+/// Makes one edit in a transaction of its own, and keeps it.
+pub fn edit_alone<S: Alter>(
+    alloc: Global,
+    tables: &mut Tables<S>,
+    step: Step<'_>,
+    out: &mut String,
+) -> Result<(), Trouble> {
+    let mut writing = tables.begin()?;
+    make_edit(alloc, &mut writing, step, out)?;
+    writing.commit()?;
+    Ok(())
 }
 
 fn push_writes(out: &mut String, writes: u64) -> Result<(), Trouble> {
@@ -62,9 +74,9 @@ fn edit_once<S: Alter>(
 ) -> Result<(), Trouble> {
     let (verb, rest) = parted(line, ' ');
     if verb != "tries" {
-        return make_edit(alloc, writing, line, out);
+        return make_edit(alloc, writing, step_of(line), out);
     }
-    match make_edit(alloc, writing, rest, out) {
+    match make_edit(alloc, writing, step_of(rest), out) {
         Ok(()) => Ok(()),
         Err(trouble) => Ok(push_trouble(out, trouble)?),
     }
@@ -73,16 +85,11 @@ fn edit_once<S: Alter>(
 fn make_edit<S: Alter>(
     alloc: Global,
     writing: &mut Writing<'_, S>,
-    line: &str,
+    step: Step<'_>,
     out: &mut String,
 ) -> Result<(), Trouble> {
-    let (verb, rest) = parted(line, ' ');
-    let step = Step {
-        verb,
-        rest,
-        body: "",
-    };
-    match verb {
+    let rest = step.rest;
+    match step.verb {
         "make" => make(alloc, writing, rest),
         "days" => put_days(alloc, writing, step),
         "rows" => put_all(alloc, writing, rest),
@@ -90,7 +97,7 @@ fn make_edit<S: Alter>(
         "edits" => edit_each(alloc, writing, rest),
         "parts" => edit_products(alloc, writing, rest),
         "records" => put_records(alloc, writing, rest),
-        "past" => put_past(alloc, writing, out),
+        "past" => put_past(alloc, writing),
         "rekey" => rekey(alloc, writing, Format::One, rest),
         "rekey2" => rekey(alloc, writing, Format::Two, rest),
         "clear" => clear(writing, out),
@@ -106,14 +113,11 @@ fn make<S: Alter>(alloc: Global, writing: &mut Writing<'_, S>, words: &str) -> R
     Ok(writing.init(alloc, limits)?)
 }
 
-/// Puts a product at a surrogate key that no row can have, which is refused.
-pub fn put_past<W: Writes>(alloc: Global, writes: &mut W, out: &mut String) -> Result<(), Trouble> {
+/// Puts a product at a surrogate key that no row can have.
+fn put_past<S: Alter>(alloc: Global, writing: &mut Writing<'_, S>) -> Result<(), Trouble> {
     let mut row = product(alloc, "1 Old")?;
     row.surrogate = u64::MAX;
-    match writes.put_row::<Product>(alloc, &row) {
-        Ok(()) => Err(Trouble::Unknown),
-        Err(cause) => Ok(push_trouble(out, Trouble::Refused(cause))?),
-    }
+    Ok(writing.put::<Product>(alloc, &row)?)
 }
 
 /// A product as `2 Tea`.

@@ -25,7 +25,7 @@ use wh_policy::{Dim, DimensionRecord, Format, Policy};
 use wh_rows::tables::{Calendar, Product, Profile};
 use wh_rows::{Cause, CommandRow, Limits, Table};
 use wh_scenarios::{number, parted, push_line, push_number};
-use wh_store::Tables;
+use wh_store::{Tables, for_init};
 
 type InMemory = Tables<MemStore>;
 
@@ -39,7 +39,7 @@ fn make(alloc: Global, tables: &mut InMemory, policy: &Policy) -> Result<u64, Ca
 /// The tables of a warehouse under the policy of a trial.
 pub fn trial(alloc: Global) -> Result<InMemory, Trouble> {
     let conn = Connection::open_in_memory(alloc)?;
-    match Tables::for_init(conn) {
+    match for_init(conn) {
         Ok(mut tables) => {
             make(alloc, &mut tables, &Policy::trial(alloc)?)?;
             Ok(tables)

@@ -7,7 +7,7 @@ use std::alloc::Global;
 use std::fmt::Write;
 use wh_rows::{Table, tables};
 use wh_scenarios::{number, parted};
-use wh_store::{Format, Tables};
+use wh_store::{Format, Tables, open};
 
 /// What came of a task, in lines.
 pub type Answer = Result<String, Trouble>;
@@ -91,7 +91,7 @@ pub fn look_over<S: Alter + Drop>(
     conn: Connection<S>,
     words: &str,
 ) -> (Connection<S>, Answer) {
-    match Tables::open(alloc, conn, Format::Two) {
+    match open(alloc, conn, Format::Two) {
         Ok((mut tables, format)) => {
             let answer = looked(alloc, &mut tables, format, words);
             (tables.close(), answer)

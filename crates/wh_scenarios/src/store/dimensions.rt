@@ -1,8 +1,8 @@
-//! The three tables of dimensions, by the calls that run one statement.
+//! The three tables of dimensions. Each edit is a transaction of its own.
 
 pub const ALL: &str = "
 scenario products
-empty BEGIN
+empty
 create
 # Two rows of the member 1 and one of the member 2, not in the order of their keys.
 put product 3, 1, 'M1', 20240201, 99991231, 1, 'New', '(unknown)', '', '', '', '', '', '', '', '(none)', '', '', 0
@@ -36,7 +36,6 @@ rows product 2
 rows product 3
 count product
 = 2
-sql COMMIT
 get product 1
 get product 2
 = product surrogate, durable, natural, from_day, to_day, is_current, a1, a2, a3, a4, a5, a6, b1, b2, b3, b4, b5, b6, profile_now
@@ -55,7 +54,7 @@ dim product
 = product
 
 scenario stores
-empty BEGIN
+empty
 create
 # Two rows of the member 1 and one of the member 2, not in the order of their keys.
 put store 3, 1, 'M1', 20240201, 99991231, 1, 'New', '(unknown)', '', '', '', '', '', '', '', '(none)', '', '', 0
@@ -89,7 +88,6 @@ rows store 2
 rows store 3
 count store
 = 2
-sql COMMIT
 get store 1
 get store 2
 = store surrogate, durable, natural, from_day, to_day, is_current, a1, a2, a3, a4, a5, a6, b1, b2, b3, b4, b5, b6, profile_now
@@ -108,7 +106,7 @@ dim store
 = store
 
 scenario customers
-empty BEGIN
+empty
 create
 # Two rows of the member 1 and one of the member 2, not in the order of their keys.
 put customer 3, 1, 'M1', 20240201, 99991231, 1, 'New', '(unknown)', '', '', '', '', '', '', '', '(none)', '', '', 0
@@ -142,7 +140,6 @@ rows customer 2
 rows customer 3
 count customer
 = 2
-sql COMMIT
 get customer 1
 get customer 2
 = customer surrogate, durable, natural, from_day, to_day, is_current, a1, a2, a3, a4, a5, a6, b1, b2, b3, b4, b5, b6, profile_now

@@ -1,8 +1,8 @@
-//! Questions about rows that were put by the calls that run one statement.
+//! Questions about rows, each of which was put in a transaction of its own.
 
 pub const ALL: &str = "
 scenario records of members and days
-empty BEGIN
+empty
 create
 anchor store
 = 0
@@ -31,7 +31,7 @@ anchor product
 = 0
 
 scenario commands
-empty BEGIN
+empty
 create
 put command 1, 'first', 'sales', x'00ff2c0a', 0, 2
 put command 3, 'third', 'sales', x'00ff2c0a', 0, 2
@@ -42,7 +42,7 @@ command third
 command Third
 
 scenario members
-empty BEGIN
+empty
 create
 put member 2, 2, 'S2', 1
 put member 2, 1, 'M1', 1
@@ -64,7 +64,7 @@ greatest member product
 greatest member customer
 
 scenario sales of members
-empty BEGIN
+empty
 create
 put fact 'T-1', 30, 20240610, 1, 9, 0, 2, 1, 3, 3, -9999, -999999999, 999999999
 put fact 'T-1', 2, 20240610, 1, 9, 0, 3, 1, 2, 3, -9999, -999999999, 999999999
@@ -83,7 +83,7 @@ sales customer 3 20240610 20240610
 sales customer 1 20240610 20240610
 
 # Facts of one product, store and customer on the day before, on the day and on the day after.
-empty BEGIN
+empty
 create
 put fact 'T-1', 3, 20240611, 1, 9, 0, 1, 1, 1, 3, -9999, -999999999, 999999999
 put fact 'T-1', 2, 20240610, 1, 9, 0, 1, 1, 1, 3, -9999, -999999999, 999999999
@@ -144,7 +144,7 @@ sales customer 1 19000101 20240608
 sales customer 1 20240611 20240610
 
 # Each member has its own days, and none before the pass begins.
-empty BEGIN
+empty
 create
 put fact 'T-1', 1, 20240609, 1, 9, 0, 1, 1, 1, 3, 1, 200, 300
 put fact 'T-1', 2, 20240610, 1, 9, 0, 1, 2, 1, 3, 1, 200, 300
@@ -185,7 +185,7 @@ sales product 2 20240609 20240611, 1 20240609 20240611
 = fact 'T-1', 2, 20240610, 1, 9, 0, 1, 2, 1, 3, 1, 200, 300
 
 scenario profiles
-empty BEGIN
+empty
 create
 greatest profile
 put profile 2, '', '30-39', 'high', '', '', ''

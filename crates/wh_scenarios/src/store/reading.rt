@@ -49,7 +49,7 @@ read fact 'T2', 10000, 20240610, 1, 9, 1, 1, 2, 1, 1, -1, 1000, 700
 = damaged fact
 
 # A fact goes through its columns.
-empty BEGIN
+empty
 create
 put fact 'T2', 1, 20240610, 1, 9, 1, 1, 2, 1, 1, -1, 1000, 700
 get fact T2 1

@@ -1,72 +1,78 @@
-//! What the calls that run one statement refuse, outside a transaction and inside one.
+//! What is refused inside a transaction of the caller's, and what goes on after a refusal.
 
 pub const ALL: &str = "
-scenario outside a transaction
-# Nothing is put.
+scenario inside a transaction of the caller's
+# Nothing is put, and the transaction goes on with what it has.
+empty
+create
+put meta 'kept', 1
+sql BEGIN; INSERT INTO meta VALUES ('new', 2)
+put meta 'other', 3
+= refused disk
+all meta
+= meta name, value
+= meta 'kept', 1
+= meta 'new', 2
+get meta other
+count meta
+= 2
+status
+= taken by the ten tables
+= in a transaction
+sql ROLLBACK
+all meta
+= meta name, value
+= meta 'kept', 1
+status
+= taken by the ten tables
+= at rest
+put meta 'other', 3
+count meta
+= 2
+
+# Nothing is made.
 empty BEGIN
 create
-sql COMMIT
-row product 1 Old
 = refused disk
+number SELECT count(*) FROM sqlite_master
+= 0
+status
+= free
+= in a transaction
+sql COMMIT
+create
+status
+= taken by the ten tables
+= at rest
+
+scenario inside a transaction of its own
+# A number past those of SQL is refused before the statement is run.
+empty
+create
+past
+= refused size
+rows product 18446744073709551615
+= refused size
 count product
 = 0
 status
 = taken by the ten tables
 = at rest
 
-# Nothing is removed.
-empty BEGIN
-create
-put command 9999999, '2024-06-10_1.sales', 'sales', x'00ff2c0a', 0, 2
-sql COMMIT
-remove command 9999999
-= refused disk
-count command
-= 1
-
-# No keys are given.
-empty BEGIN
-create
-put fact 'T-1', 9999, 20240610, 1, 9, 0, 4, 5, 0, 3, -9999, -999999999, 999999999
-sql COMMIT
-rekey T-1 9999 11 12 13 14
-= refused disk
-get fact T-1 9999
-= fact ticket, line, day, store_key, product_key, customer_key, store_durable, product_durable, customer_durable, profile, quantity, amount, cost
-= fact 'T-1', 9999, 20240610, 1, 9, 0, 4, 5, 0, 3, -9999, -999999999, 999999999
-
-# No facts are taken out.
-empty BEGIN
-create
-put fact 'T-1', 9999, 20240610, 1, 9, 0, 4, 5, 0, 3, -9999, -999999999, 999999999
-sql COMMIT
-clear
-= refused disk
-count fact
-= 1
-
-# Nothing is made.
-empty
-create
-= refused disk
-status
-= free
-= at rest
-
-scenario inside a transaction
-# A number past those of SQL is refused before the statement is run, and the transaction goes on.
-empty BEGIN
-create
-past
+# The transaction goes on, and a commit keeps none of it.
+warehouse
+write
+> tries past
+> row product 1 Old
+> commit
 = refused size
-rows product 18446744073709551615
-= refused size
-status
-= taken by the ten tables
-= in a transaction
+= 1 written
+= refused disk
+count product
+= 0
 
 # A member whose natural key another member of the dimension has is refused, and the other stays.
-empty BEGIN
+empty
 create
 put member 2, 1, 'S-1', 1
 put member 2, 2, 'S-1', 2
@@ -75,14 +81,28 @@ count member
 = 1
 status
 = taken by the ten tables
-= in a transaction
+= at rest
 put member 2, 1, 'S-2', 3
 put member 2, 2, 'S-1', 2
 count member
 = 2
 
+# The transaction goes on, also with that member once its natural key is free, and a commit keeps none of it.
+warehouse
+write
+> put member 2, 1, 'S-1', 1
+> tries put member 2, 2, 'S-1', 2
+> put member 2, 1, 'S-2', 3
+> put member 2, 2, 'S-1', 2
+> commit
+= refused disk
+= 3 written
+= refused disk
+count member
+= 0
+
 # The keys of a fact are moved.
-empty BEGIN
+empty
 create
 put fact 'T-1', 9999, 20240610, 1, 9, 0, 4, 5, 0, 3, -9999, -999999999, 999999999
 bound UPDATE fact SET store_key = ?3, product_key = ?4, customer_key = ?5, profile = ?6 WHERE ticket = ?1 AND line = ?2

@@ -110,7 +110,7 @@ scenario edits are made in turn
 warehouse
 write
 > row product 1 Cola
-> past
+> tries past
 > commit
 = refused size
 = 1 written
