@@ -1,13 +1,14 @@
 #!/usr/bin/env bash
 # Two gates side by side, each from nothing, on two processors of its own: what a change takes off.
-# usage: bench/gates.sh FOLDER COMMIT COMMIT
+# usage: bench/gates.sh FOLDER COMMIT COMMIT [MINUTES]
 #
 # FOLDER gets a clone of each commit, what each keeps of its proofs, and a log. Needs root, for a mount that only the gate sees; four
 # processors, 24 GB, and nothing else that works. At the end a line for each: its commit, minutes by the clock, minutes of processor time,
-# and what its gate counts.
+# and what its gate counts. After MINUTES, 600 without a word, a gate is ended; its log tells how far it came.
 set -eu
 cd "$(dirname "$0")/.."
 folder=$1
+minutes=${4:-600}
 kept=$(dirname "$(dirname "$(readlink -f "$(command -v rt)")")")/../rattle-kept
 mkdir -p "$folder" "$kept"
 
@@ -20,8 +21,8 @@ gate() { # COMMIT PROCESSORS
         mount --bind "$1" "$2"
         cd "$3"
         TIMEFORMAT="%R %U %S"
-        { time taskset -c "$4" .ci/run > "$5" 2>&1; } 2> "$6" || true
-    ' gate "$folder/kept-$1" "$kept" "$tree" "$2" "$folder/$1.log" "$folder/$1.time"
+        { time timeout --signal=INT "${7}m" taskset -c "$4" .ci/run > "$5" 2>&1; } 2> "$6" || true
+    ' gate "$folder/kept-$1" "$kept" "$tree" "$2" "$folder/$1.log" "$folder/$1.time" "$minutes"
 }
 
 gate "$2" 0,1 &
